@@ -1,0 +1,65 @@
+use crate::packets::Packets;
+use kn_io::{Blob, Text};
+
+/// How far the app has come, at its client.
+#[derive(Clone, Copy, Debug, PartialEq, Eq)]
+pub enum AppStage {
+    Absent,
+    Dialling,
+    Open,
+    Refused,
+}
+
+/// What the server has of the tunnel in its tables.
+#[derive(Clone, Copy, Debug, PartialEq, Eq)]
+pub enum Entry {
+    Nothing,
+    Awaited,
+    Held,
+}
+
+/// How far the dial has come: the server drew it, the agent handles it, the agent holds the connection.
+#[derive(Clone, Copy, Debug, PartialEq, Eq)]
+pub enum DialStage {
+    Undrawn,
+    Asked,
+    Dialling,
+    Open,
+}
+
+/// What the server chose from at the dial, and what it chose.
+#[derive(Clone, Copy, Debug, PartialEq, Eq)]
+pub enum Choice {
+    NotMade,
+    /// There was a link, or there was none, and this link was picked.
+    Made { has_link: bool, picked: Option<u64> },
+}
+
+/// The bytes of an app or a destination: those that it sent, of these the ones that were not yet handed to
+/// its end, and those that it got.
+#[derive(Drop)]
+pub struct Side {
+    pub sent: Blob,
+    pub kept: Blob,
+    pub got: Blob,
+}
+
+/// All that the world holds: at most one agent, one client and one app, and so one tunnel.
+#[derive(Drop)]
+pub struct State {
+    pub agent: bool,
+    pub client: bool,
+    pub app: AppStage,
+    pub entry: Entry,
+    pub dial: DialStage,
+    pub choice: Choice,
+    pub error: Text,
+    pub app_side: Side,
+    pub dest_side: Side,
+    /// Packets on their way from the agent to the server, and back.
+    pub agent_up: Packets,
+    pub agent_down: Packets,
+    /// Packets on their way from the client to the server, and back.
+    pub client_up: Packets,
+    pub client_down: Packets,
+}
