@@ -63,3 +63,22 @@ impl Text {
         Ok(())
     }
 }
+
+#[cfg(test)]
+mod tests {
+    use crate::{Blob, Text};
+    use std::test::Fail;
+
+    #[test]
+    fn texts_and_bytes_grow(rt: HostRuntime) -> Result<(), Fail> {
+        let mut text = Text::of(rt.alloc(), "ag")?;
+        text.append("ent")?;
+        assert_eq!(rt; text.as_str(), "agent");
+        assert_eq!(rt; text.len(), 5);
+        let mut blob = Blob::of(rt.alloc(), b"ag")?;
+        blob.append(b"ent")?;
+        assert_eq!(rt; blob.as_slice(), b"agent".as_slice());
+        assert!(rt; Blob::new(rt.alloc()).is_empty() && Text::new(rt.alloc()).is_empty());
+        Ok(())
+    }
+}
