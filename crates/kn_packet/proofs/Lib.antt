@@ -1,0 +1,16 @@
+pub mod Groups
+pub mod Scans
+pub mod Contents
+pub mod FieldLaws
+pub mod Decided
+pub mod Decisions
+pub mod Steps
+pub mod Entries
+pub mod Finish
+pub mod Parts
+pub mod Readings
+pub mod Lengths
+pub mod Spells
+pub mod LastValues
+pub mod RoundTrip
+pub mod Pushes

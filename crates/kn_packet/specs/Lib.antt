@@ -1,0 +1,13 @@
+pub mod Varints
+pub mod Fields
+pub mod Scanning
+pub mod Payloads
+pub mod Reading
+pub mod Faults
+pub mod Progress
+pub mod Seen
+pub mod Messages
+pub mod Stops
+pub mod Drafts
+pub mod Spelling
+pub mod Lines
