@@ -1,0 +1,5 @@
+pub mod Frames
+pub mod Readers
+pub mod Cutters
+pub mod Lines
+pub mod Listings
