@@ -1,0 +1,16 @@
+pub mod Faults
+pub mod Integers
+pub mod Codes
+pub mod Walks
+pub mod Strings
+pub mod Fields
+pub mod StaticTable
+pub mod StaticText
+pub mod Indexes
+pub mod Blocks
+pub mod Decoding
+pub mod Encoding
+pub mod HuffmanLaws
+pub mod Representations
+pub mod RoundTrip
+pub mod FirstFaults
