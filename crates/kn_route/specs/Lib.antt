@@ -1,0 +1,12 @@
+pub mod Addresses
+pub mod Choice
+pub mod Cuts
+pub mod Hosts
+pub mod Identifiers
+pub mod Kinds
+pub mod LinkLists
+pub mod Listing
+pub mod Meanings
+pub mod Ranges
+pub mod Steps
+pub mod Strategies
