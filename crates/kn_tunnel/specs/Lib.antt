@@ -1,0 +1,14 @@
+pub mod Bytes
+pub mod ConnectRows
+pub mod Cuts
+pub mod Events
+pub mod Facts
+pub mod Kinds
+pub mod LinkRows
+pub mod LinkSide
+pub mod Order
+pub mod Outcome
+pub mod Steps
+pub mod StreamRows
+pub mod StreamSide
+pub mod Tunnel
