@@ -1,6 +1,6 @@
 -- What a world shows to its reader: of each app and each dial how far it came and what it sent and got, the
 -- choices of the server, the sizes of the tables, and whether all is quiet and closed.
-use Rattle.std.specs.Prelude.{◌≡◌, ℕ, ◌-◌, Bool, List, [], ◌∷◌, ◌++◌, map, Option, Some, None, IsSomeAnd, slice_get}
+use Rattle.std.specs.Prelude.{◌≡◌, ℕ, ◌-◌, Bool, true, List, [], ◌∷◌, ◌++◌, map, Option, Some, None, IsSomeAnd, slice_get}
 use Rattle.std.specs.List.{filter_map, AllByRecursion}
 use Rattle.kn_world.specs.declared.event.AppPhase.{AppPhase}
 use Rattle.kn_world.specs.declared.event.DialPhase.{DialPhase}
@@ -57,3 +57,11 @@ pick_of (link ∷ links) = Some link
 pub record Chosen (world : Shown) : Type 0 where
   pub picks : AllByRecursion (λ choice. choice.picked ≡ pick_of choice.links) world.choices
   pub dials : map (λ dial. dial.link) world.dials ≡ filter_map (λ choice. choice.picked) world.choices
+
+-- of a dial and its app: all that was sent, either way, was delivered
+abbrev pub TunnelDone : List AppShown → DialShown → Type 0
+TunnelDone apps dial = IsSomeAnd (slice_get apps (dial.app - 1)) (λ app. (dial.got ≡ app.sent) × (app.got ≡ dial.sent))
+
+-- where all is quiet, nothing that was sent in a tunnel is missing
+abbrev pub Delivered : Shown → Type 0
+Delivered world = world.quiet ≡ true → AllByRecursion (TunnelDone world.apps) world.dials

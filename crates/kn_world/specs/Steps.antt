@@ -1,7 +1,7 @@
 -- The world of one tunnel: what its three ends do with a packet, what an event does, and what is shown.
 -- The words and the rules are those of KEP-1281: the client asks the server for a dial, the server draws a
 -- number for it and asks the agent, the agent's reply opens the tunnel, and data goes through it.
-use Rattle.std.specs.Prelude.{ℕ, zero, suc, ◌+◌, ◌==◌, Bool, true, false, ◌&&◌, not, List, [], ◌∷◌, ◌++◌, length, Option, Some, None, ℤ, pos, if◌then◌else◌, codes}
+use Rattle.std.specs.Prelude.{ℕ, zero, suc, ◌+◌, ◌==◌, Bool, true, false, ◌&&◌, not, List, [], ◌∷◌, ◌++◌, length, pos, if◌then◌else◌, codes}
 use Rattle.kn_packet.specs.declared.packet.Packet.{Packet}
 use Rattle.kn_packet.specs.declared.packet.Packet.TheVariants.{DialReq, DialRsp, CloseReq, CloseRsp, Data, DialCls, Drain, Other}
 use Rattle.kn_world.specs.Shown.{Shown, AppShown, DialShown, ChoiceShown, pick_of}
@@ -247,11 +247,11 @@ dest_sends dial.Undrawn bytes s = s
 dest_sends dial.Asked bytes s = s
 dest_sends dial.Dialling bytes s = s
 
--- what an event leaves; one that names an app or a dial other than the first changes nothing
+-- what an event leaves; one that names a client, an app or a dial other than the first changes nothing
 abbrev pub after : WorldEvent → State → State
 after (event.Agent identifiers) s = record s { agent = true }
 after event.Client s = record s { client = true }
-after (event.App client address) s = app_made s.client s.app address s
+after (event.App client address) s = app_made (s.client && (client == 1)) s.app address s
 after (event.Up number) s = if number == 1 then dial_won s.dial s else s
 after (event.Send number bytes) s = if number == 1 then app_sends s.app bytes s else s
 after (event.Answer number bytes) s = if number == 1 then dest_sends s.dial bytes s else s

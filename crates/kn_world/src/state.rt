@@ -1,5 +1,9 @@
+ghost use Rattle.std.specs.Prelude.{◌≡◌};
+ghost use Rattle.kn_world.specs.Steps.{start, no_bytes, nothing_in_flight};
+
 use crate::packets::Packets;
 use kn_io::{Blob, Text};
+use std::alloc::Global;
 
 /// How far the app has come, at its client.
 #[derive(Clone, Copy, Debug, PartialEq, Eq)]
@@ -62,4 +66,47 @@ pub struct State {
     /// Packets on their way from the client to the server, and back.
     pub client_up: Packets,
     pub client_down: Packets,
+}
+
+impl Side {
+    pub fn new(alloc: Global) -> Side
+        ensures { result ≡ no_bytes }
+    {
+        Side {
+            sent: Blob::new(alloc),
+            kept: Blob::new(alloc),
+            got: Blob::new(alloc),
+        }
+    }
+}
+
+impl State {
+    pub fn new(alloc: Global) -> State
+        ensures { result ≡ start }
+    {
+        State {
+            agent: false,
+            client: false,
+            app: AppStage::Absent,
+            entry: Entry::Nothing,
+            dial: DialStage::Undrawn,
+            choice: Choice::NotMade,
+            error: Text::new(alloc),
+            app_side: Side::new(alloc),
+            dest_side: Side::new(alloc),
+            agent_up: Packets::new(alloc),
+            agent_down: Packets::new(alloc),
+            client_up: Packets::new(alloc),
+            client_down: Packets::new(alloc),
+        }
+    }
+
+    pub fn nothing_in_flight(&self) -> bool
+        ensures { result ≡ nothing_in_flight self.now }
+    {
+        self.agent_up.is_empty()
+            && self.agent_down.is_empty()
+            && self.client_up.is_empty()
+            && self.client_down.is_empty()
+    }
 }

@@ -1,0 +1,4 @@
+pub mod Rounds
+pub mod Tunnel
+pub mod Flows
+pub mod Shows
