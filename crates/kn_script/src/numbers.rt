@@ -1,0 +1,105 @@
+ghost use Rattle.std.specs.Prelude.{◌≡◌, ◌-◌, ◌^◌, min, fold, ◌<◌};
+ghost use Rattle.std.specs.List.{list_all};
+ghost use Rattle.std.specs.Option.{option_map};
+ghost use Rattle.kn_script.specs.Words.{is_digit, has_leading_zero, is_number, with_digit, number_of};
+ghost use Rattle.kn_script.specs.Script.{any_number, named, dial_number, round_count};
+
+use crate::fault::ScriptReason;
+use crate::made::{MAX_DIAL, MAX_ROUNDS};
+
+fn has_leading_zero(word: &[u8]) -> bool
+    ensures { result ≡ has_leading_zero word.now }
+{
+    match word {
+        [] => false,
+        [_] => false,
+        [first, _, ..] => *first == b'0',
+    }
+}
+
+fn is_digits(word: &[u8]) -> bool
+    ensures { result ≡ list_all is_digit word.now }
+{
+    word.iter().all(|digit| digit.is_ascii_digit())
+}
+
+/// Whether a word is decimal digits without a leading zero.
+fn is_number(word: &[u8]) -> bool
+    ensures { result ≡ is_number word.now }
+{
+    !word.is_empty() && is_digits(word) && !has_leading_zero(word)
+}
+
+/// The value of decimal digits, or 2^64 - 1 where it is larger.
+fn capped_value(digits: &[u8]) -> u64
+    ensures { result ≡ min (fold with_digit 0 digits.now) (2 ^ 64 - 1) }
+{
+    let mut value: u64 = 0;
+    for digit in digits {
+        value = value
+            .saturating_mul(10)
+            .saturating_add(u64::from(digit.saturating_sub(b'0')));
+    }
+    value
+}
+
+/// The number that a word spells in decimal digits without a sign or a leading zero, or 2^64 - 1 where it is
+/// larger. `None` where the word is no number.
+pub fn read_number(word: &str) -> Option<u64>
+    ensures { result ≡ option_map (λ n. min n (2 ^ 64 - 1)) (number_of word.now) }
+{
+    if is_number(word.as_bytes()) {
+        Some(capped_value(word.as_bytes()))
+    } else {
+        None
+    }
+}
+
+/// The number of one of so many that earlier lines made.
+pub fn named(made: usize, word: &str) -> Result<usize, ScriptReason>
+    requires { made < 2 ^ 64 - 1 }
+    ensures { result ≡ named made word.now }
+{
+    match read_number(word) {
+        None => Err(ScriptReason::Number),
+        Some(n) => {
+            if 1 <= n && n <= made as u64 {
+                Ok(n as usize)
+            } else {
+                Err(ScriptReason::Name)
+            }
+        }
+    }
+}
+
+/// The number of a dial.
+pub fn dial_number(word: &str) -> Result<u64, ScriptReason>
+    ensures { result ≡ dial_number word.now }
+{
+    match read_number(word) {
+        None => Err(ScriptReason::Number),
+        Some(n) => {
+            if n <= MAX_DIAL {
+                Ok(n)
+            } else {
+                Err(ScriptReason::Limit)
+            }
+        }
+    }
+}
+
+/// How many rounds a `pass` has.
+pub fn round_count(word: &str) -> Result<u64, ScriptReason>
+    ensures { result ≡ round_count word.now }
+{
+    match read_number(word) {
+        None => Err(ScriptReason::Number),
+        Some(n) => {
+            if 1 <= n && n <= MAX_ROUNDS {
+                Ok(n)
+            } else {
+                Err(ScriptReason::Limit)
+            }
+        }
+    }
+}
