@@ -1,0 +1,4 @@
+mod CutLemmas
+mod FrontLemmas
+mod LossLemmas
+mod SoundLemmas

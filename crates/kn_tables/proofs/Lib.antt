@@ -1,0 +1,4 @@
+mod AwaitedLemmas
+mod HeldLemmas
+mod IndexLemmas
+mod LeastLemmas

@@ -1,0 +1,10 @@
+use Rattle.std.proofs.Common.{◌∙◌, ap, w64}
+use Rattle.std.proofs.Math.Facts.{to_z-of_z}
+use Rattle.kn_tables.specs.Indexed.{entry_at}
+use Rattle.kn_tables.proofs.AwaitedLemmas.{random_found}
+use Rattle.kn_tables.proofs.awaited.Awaited.find_random.Goals as goal
+
+pub returns : goal.returns
+returns c =
+    let fits = to_z-of_z {w = w64} {z = c.args.random} c.ranges.random in
+    rw (c.entry_at.ensures, c.copied.ensures, ← c.self.view_is) (ap (entry_at c.self.inside.by_dial.entries) (rw fits at c.get.ensures.value) ∙ random_found c.self.inside c.self.invariant c.args.front c.args.random)

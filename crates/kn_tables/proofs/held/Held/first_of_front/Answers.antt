@@ -1,0 +1,12 @@
+use Rattle.kn_tables.proofs.IndexLemmas.{values_rising}
+use Rattle.kn_tables.proofs.HeldLemmas.{front_found, rows_apart}
+use Rattle.kn_tables.proofs.held.Held.first_of_front.Goals as goal
+
+pub returns-clause-rising : goal.returns-clause-rising
+returns-clause-rising c = rw (← c.self.view_is) (values_rising (λ e. e.dial) c.self.inside.by_dial.entries c.self.invariant.keyed c.self.invariant.ordered)
+
+pub returns-clause-first : goal.returns-clause-first
+returns-clause-first c = rw (c.entry_at.ensures, ← c.self.view_is) (front_found c.self.inside c.self.invariant c.args.front c.first_at.result c.first_at.ensures)
+
+pub returns-clause-apart : goal.returns-clause-apart
+returns-clause-apart c = rw (← c.self.view_is) (rows_apart c.self.inside c.self.invariant)

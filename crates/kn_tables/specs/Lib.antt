@@ -1,0 +1,5 @@
+pub mod Awaiting
+pub mod Holding
+pub mod Indexed
+pub mod Keeping
+pub mod Lists
