@@ -1,5 +1,7 @@
 use super::*;
-use kn_io::{Blob, MemSink, MemSource};
+use kn_io::{Blob, MemSink, MemSource, StdSink, StdSource};
+use std::io;
+use std::io::{Read, Write};
 use std::process::Abort;
 use std::test::Fail;
 
@@ -283,5 +285,54 @@ fn refuses_a_script_of_too_many_lines(rt: HostRuntime) -> Result<(), Fail> {
     let status = run_plain(rt.alloc(), REPLAY, &mut source, &mut out, &mut err);
     assert_eq!(rt; status, 6);
     assert_eq!(rt; err.written(), b"kn: input too long\n".as_slice());
+    Ok(())
+}
+
+/// A reader and writer of std that gives one byte, and then fails, and takes nothing.
+#[derive(Drop)]
+struct Broken {
+    was_read: bool,
+}
+
+impl Read for Broken {
+    fn read(&mut self, buf: &mut [u8]) -> io::Result<usize> {
+        if self.was_read || buf.is_empty() {
+            return Err(io::Error::from(io::ErrorKind::BrokenPipe));
+        }
+        self.was_read = true;
+        buf[0] = b'#';
+        Ok(1)
+    }
+}
+
+impl Write for Broken {
+    fn write(&mut self, _buf: &[u8]) -> io::Result<usize> {
+        Err(io::Error::from(io::ErrorKind::BrokenPipe))
+    }
+
+    fn flush(&mut self) -> io::Result<()> {
+        Ok(())
+    }
+}
+
+#[test]
+fn tells_that_a_reader_of_std_failed(rt: HostRuntime) {
+    let mut source = StdSource::new(Broken { was_read: false });
+    let mut out = MemSink::new(rt.alloc(), Vec::new(rt.alloc()));
+    let mut err = MemSink::new(rt.alloc(), Vec::new(rt.alloc()));
+    let status = run_plain(rt.alloc(), REPLAY, &mut source, &mut out, &mut err);
+    assert_eq!(rt; status, 4);
+    assert_eq!(rt; err.written(), b"kn: read fault\n".as_slice());
+}
+
+#[test]
+fn tells_that_a_writer_of_std_failed(rt: HostRuntime) -> Result<(), Fail> {
+    let bytes = Blob::of(rt.alloc(), b"client\n")?;
+    let mut source = MemSource::new(bytes, 16, Vec::new(rt.alloc()));
+    let mut out = StdSink::new(Broken { was_read: false });
+    let mut err = MemSink::new(rt.alloc(), Vec::new(rt.alloc()));
+    let status = run_plain(rt.alloc(), REPLAY, &mut source, &mut out, &mut err);
+    assert_eq!(rt; status, 5);
+    assert_eq!(rt; err.written(), b"kn: write fault\n".as_slice());
     Ok(())
 }
