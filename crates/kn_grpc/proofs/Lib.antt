@@ -1,0 +1,13 @@
+pub mod Firsts
+pub mod Taking
+pub mod States
+pub mod Heading
+pub mod Feeding
+pub mod Begun
+pub mod Spellings
+pub mod Streams
+pub mod Values
+pub mod PacketReadings
+pub mod FirstPackets
+pub mod Segments
+pub mod OwnCalls
