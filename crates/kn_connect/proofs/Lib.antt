@@ -1,0 +1,6 @@
+pub mod Steps
+pub mod Unfinished
+pub mod Room
+pub mod Cuts
+pub mod Refused
+pub mod Answered
