@@ -1,4 +1,14 @@
 mod CutLemmas
+mod EntryLemmas
+mod FrontIsolation
 mod FrontLemmas
+mod LinkIsolation
 mod LossLemmas
+mod OrderLemmas
+mod PickLemmas
+mod ReachedLemmas
 mod SoundLemmas
+mod TunnelBytes
+mod TunnelLaws
+mod TunnelRuns
+mod TunnelTables

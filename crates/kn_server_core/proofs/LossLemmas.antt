@@ -1,17 +1,15 @@
 -- The loops over the entries of a link or a front that is lost.
-use Rattle.std.proofs.Common.{◌≡◌, ℕ, ℤ, ◌+◌, ◌<◌, ◌≤◌, Bool, true, false, not, cond, eqb, ◌&&◌, List, [], ◌∷◌, ◌++◌, map, filter, length, Option, Some, None, refl, sym, ap, ◌∙◌, subst, arith, rules, append_assoc, append-nil}
+use Rattle.std.proofs.Common.{◌≡◌, ℕ, ℤ, ◌<◌, Bool, true, false, not, cond, eqb, ◌&&◌, List, [], ◌∷◌, ◌++◌, map, filter, length, Some, None, refl, sym, ap, ◌∙◌, subst, arith, append_assoc, append-nil}
 use Rattle.std.specs.Option.{IsSome}
 use Rattle.std.specs.Ordering.{int_eq, int_cmp, is_lt}
 use Rattle.std.proofs.lemmas.Cmp.{tied_itself, int_cmp_total}
 use Rattle.std.proofs.lemmas.Bool.Decides.{Decides-eqb, Decides-int_eq}
-use Rattle.kn_tables.specs.declared.awaited_entry.AwaitedEntry.{AwaitedEntry}
 use Rattle.kn_tables.specs.declared.held_entry.HeldEntry.{HeldEntry}
 use Rattle.kn_tables.specs.Lists.{first_where, without, IsRising, AreAbove}
-use Rattle.kn_tables.specs.Holding.{is_held, is_held_on, is_held_by, has_front, closed_at, closed_entry, by_connect_id, in_order, first_of, AreApart}
-use Rattle.kn_server_core.specs.declared.event.ServerOut.{ServerOut}
+use Rattle.kn_tables.specs.Holding.{is_held, is_held_on, is_held_by, closed_at, by_connect_id, in_order, first_of, AreApart}
 use Rattle.kn_server_core.specs.Server.{front_left}
 
-above_found : {E : Type 0} (number : E → ℕ) (p : E → Bool) (n : ℕ) (e : E) (xs : List E) → AreAbove number n xs → first_where p xs ≡ Some e → n < number e
+pub above_found : {E : Type 0} (number : E → ℕ) (p : E → Bool) (n : ℕ) (e : E) (xs : List E) → AreAbove number n xs → first_where p xs ≡ Some e → n < number e
 above_found number p n e [] a h = absurd cc
 above_found number p n e (x ∷ xs) a h = above_here (p x) h (λ l. above_found number p n e xs a.1 l)
   where
@@ -19,7 +17,7 @@ above_found number p n e (x ∷ xs) a h = above_here (p x) h (λ l. above_found 
     above_here true h later = let m : x ≡ e = cc in subst (λ z. n < number z) m a.0
     above_here false h later = later h
 
-not_equal : (a b : ℕ) → a < b → eqb a b ≡ false
+pub not_equal : (a b : ℕ) → a < b → eqb a b ≡ false
 not_equal a b l = not_here (eqb a b) refl
   where
     not_here : (c : Bool) → eqb a b ≡ c → c ≡ false
@@ -205,7 +203,7 @@ same_both : (a f : ℕ) (x r : ℤ) → a ≡ f → x ≡ r → (eqb a f && int_
 same_both a f x r e i = rw ((Decides-eqb a f).1 e, (Decides-int_eq x r).1 i) refl
 
 -- ---- the tunnels of a front
-same_held : (a b : HeldEntry) → is_held a.link a.connect_id b ≡ false → is_held b.link b.connect_id a ≡ false
+pub same_held : (a b : HeldEntry) → is_held a.link a.connect_id b ≡ false → is_held b.link b.connect_id a ≡ false
 same_held a b h = same_if (is_held b.link b.connect_id a) refl
   where
     same_if : (c : Bool) → is_held b.link b.connect_id a ≡ c → c ≡ false
@@ -222,7 +220,7 @@ none_closed e (x ∷ xs) h = none_here (is_held e.link e.connect_id x) refl h (�
     none_here false i h later = rw i (ap (λ l. x ∷ l) (later h))
 
 -- an entry of the rest is another connection
-other_held : (x e : HeldEntry) (p : HeldEntry → Bool) (xs : List HeldEntry) → first_where (is_held x.link x.connect_id) xs ≡ None → first_where p xs ≡ Some e → is_held x.link x.connect_id e ≡ false
+pub other_held : (x e : HeldEntry) (p : HeldEntry → Bool) (xs : List HeldEntry) → first_where (is_held x.link x.connect_id) xs ≡ None → first_where p xs ≡ Some e → is_held x.link x.connect_id e ≡ false
 other_held x e p [] a h = absurd cc
 other_held x e p (y ∷ ys) a h = other_here (is_held x.link x.connect_id y) (p y) refl a h (λ k l. other_held x e p ys k l)
   where

@@ -1,6 +1,5 @@
 -- The packets that the server gives out.
 use Rattle.std.specs.Prelude.{ℕ, ℤ, pos, nat_lt, List, [], ◌∷◌, length, take, drop, if◌then◌else◌}
-use Rattle.kn_packet.specs.declared.packet.Packet.{Packet}
 use Rattle.kn_packet.specs.declared.packet.Packet.TheVariants.{DialRsp, CloseReq, CloseRsp, Data}
 use Rattle.kn_server_core.specs.declared.event.ServerOut.{ServerOut}
 use Rattle.kn_server_core.specs.declared.event.ServerOut.TheVariants.{ToFront, ToLink}

@@ -20,7 +20,7 @@ use Rattle.kn_tables.specs.Holding.{is_held_dial, is_held, is_held_on, is_held_b
 use Rattle.kn_server_core.specs.declared.event.ServerEvent.{ServerEvent}
 use Rattle.kn_server_core.specs.declared.event.ServerEvent.TheVariants.{LinkUp, LinkPacket, LinkLost, FrontUp, FrontPacket, FrontLost}
 use Rattle.kn_server_core.specs.declared.event.ServerOut.{ServerOut}
-use Rattle.kn_server_core.specs.declared.event.ServerOut.TheVariants.{ToLink, ToFront, CutLink, Made}
+use Rattle.kn_server_core.specs.declared.event.ServerOut.TheVariants.{ToLink, CutLink, Made}
 use Rattle.kn_server_core.specs.declared.state.State.{State}
 use Rattle.kn_server_core.specs.FrontLists.{no_fronts, with_front, without_front, is_up}
 use Rattle.kn_server_core.specs.Packets.{refusal, opened, ended, close_refused, close_asked, in_packets, data_to_front, data_to_link}

@@ -1,4 +1,4 @@
 mod AwaitedLemmas
 mod HeldLemmas
-mod IndexLemmas
+pub mod IndexLemmas
 mod LeastLemmas

@@ -8,6 +8,8 @@ mod counts;
 mod held;
 mod held_entry;
 mod index;
+#[cfg(test)]
+mod tests;
 
 pub use awaited::Awaited;
 pub use awaited_entry::AwaitedEntry;

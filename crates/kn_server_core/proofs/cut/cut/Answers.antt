@@ -1,5 +1,4 @@
-use Rattle.std.proofs.Common.{◌≡◌, IfOk, sym, ◌∙◌, subst, arith}
-use Rattle.kn_server_core.specs.Texts.{error_cut}
+use Rattle.std.proofs.Common.{◌≡◌, IfOk, ◌∙◌, subst, arith}
 use Rattle.kn_server_core.proofs.CutLemmas.{cut_is}
 use Rattle.kn_server_core.proofs.cut.cut.Goals as goal
 

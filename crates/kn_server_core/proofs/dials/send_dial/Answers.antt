@@ -1,5 +1,4 @@
-use Rattle.std.proofs.Common.{◌≡◌, ◌++◌, ◌∷◌, not, filter, map, Some, None, sym, ◌∙◌, ap, refl, rules, SFits, w64}
-use Rattle.std.proofs.Math.Facts.{to_z-of_z}
+use Rattle.std.proofs.Common.{refl}
 use Rattle.kn_server_core.proofs.SoundLemmas.{drawn}
 use Rattle.kn_server_core.proofs.dials.send_dial.Goals as goal
 

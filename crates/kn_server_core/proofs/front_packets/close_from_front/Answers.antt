@@ -1,4 +1,4 @@
-use Rattle.std.proofs.Common.{◌≡◌, sym, ◌∙◌}
+use Rattle.std.proofs.Common.{sym, ◌∙◌}
 use Rattle.kn_server_core.proofs.SoundLemmas.{own_stands}
 use Rattle.kn_server_core.proofs.front_packets.close_from_front.Goals as goal
 

@@ -1,4 +1,4 @@
-use Rattle.std.proofs.Common.{◌≡◌, sym, ◌∙◌, ap, refl, rules, true, false, SFits, w64}
+use Rattle.std.proofs.Common.{refl, rules, true, SFits, w64}
 use Rattle.std.proofs.Math.Facts.{to_z-of_z}
 use Rattle.kn_server_core.proofs.SoundLemmas.{closed_held}
 use Rattle.kn_server_core.proofs.front_packets.close_own.Goals as goal

@@ -1,4 +1,4 @@
-use Rattle.std.proofs.Common.{◌≡◌, w64}
+use Rattle.std.proofs.Common.{w64}
 use Rattle.std.proofs.Math.Facts.{to_z-of_z}
 use Rattle.kn_server_core.proofs.front_packets.unknown_close.Goals as goal
 

@@ -1,4 +1,4 @@
-use Rattle.std.proofs.Common.{◌≡◌, sym, ◌∙◌}
+use Rattle.std.proofs.Common.{sym, ◌∙◌}
 use Rattle.kn_server_core.proofs.SoundLemmas.{dial_stands}
 use Rattle.kn_server_core.proofs.link_packets.awaited_reply.Goals as goal
 

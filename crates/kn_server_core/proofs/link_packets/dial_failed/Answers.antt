@@ -1,5 +1,4 @@
-use Rattle.std.proofs.Common.{◌≡◌, sym, ◌∙◌, ap, refl, rules, true, false, SFits, w64}
-use Rattle.std.proofs.Math.Facts.{to_z-of_z}
+use Rattle.std.proofs.Common.{refl}
 use Rattle.kn_tables.specs.Awaiting.{is_dial}
 use Rattle.kn_server_core.proofs.SoundLemmas.{fewer_awaited}
 use Rattle.kn_server_core.proofs.link_packets.dial_failed.Goals as goal

@@ -1,4 +1,4 @@
-use Rattle.std.proofs.Common.{◌≡◌, sym, ◌∙◌}
+use Rattle.std.proofs.Common.{sym, ◌∙◌}
 use Rattle.kn_server_core.proofs.SoundLemmas.{held_below}
 use Rattle.kn_server_core.proofs.link_packets.end_came.Goals as goal
 

@@ -1,4 +1,4 @@
-use Rattle.std.proofs.Common.{◌≡◌, sym, ◌∙◌, ap, refl, rules, true, false, SFits, w64}
+use Rattle.std.proofs.Common.{refl, w64}
 use Rattle.std.proofs.Math.Facts.{to_z-of_z}
 use Rattle.kn_tables.specs.Holding.{is_held}
 use Rattle.kn_server_core.proofs.SoundLemmas.{fewer_held}

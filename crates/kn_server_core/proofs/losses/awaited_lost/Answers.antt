@@ -1,4 +1,4 @@
-use Rattle.std.proofs.Common.{◌≡◌, ◌++◌, ◌∷◌, not, filter, map, false, Some, None, sym, ◌∙◌, ap, refl, rules, SFits, w64}
+use Rattle.std.proofs.Common.{◌∷◌, not, filter, sym, ◌∙◌, ap, refl, rules, SFits, w64}
 use Rattle.kn_server_core.specs.declared.state.State.{State}
 use Rattle.std.proofs.Math.Facts.{to_z-of_z}
 use Rattle.kn_tables.specs.Awaiting.{is_of_link, is_dial}

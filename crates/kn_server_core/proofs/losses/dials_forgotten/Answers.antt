@@ -1,6 +1,5 @@
-use Rattle.std.proofs.Common.{◌≡◌, ◌++◌, ◌∷◌, not, filter, map, false, Some, None, sym, ◌∙◌, ap, refl, rules, SFits, w64}
+use Rattle.std.proofs.Common.{not, filter, sym, ◌∙◌, ap, refl}
 use Rattle.kn_server_core.specs.declared.state.State.{State}
-use Rattle.std.proofs.Math.Facts.{to_z-of_z}
 use Rattle.kn_tables.specs.Awaiting.{is_of_front, is_dial}
 use Rattle.kn_server_core.proofs.SoundLemmas.{fewer_awaited, not_missed, own_dial}
 use Rattle.kn_server_core.proofs.LossLemmas.{kind_others, none_of_kind, shorter_by}

@@ -1,7 +1,7 @@
-use Rattle.std.proofs.Common.{◌≡◌, ◌++◌, ◌∷◌, not, filter, map, false, Some, None, sym, ◌∙◌, ap, refl, rules, SFits, w64}
+use Rattle.std.proofs.Common.{◌∷◌, filter, map, false, sym, ◌∙◌, ap, refl, rules, SFits, w64}
 use Rattle.kn_server_core.specs.declared.state.State.{State}
 use Rattle.std.proofs.Math.Facts.{to_z-of_z}
-use Rattle.kn_tables.specs.Holding.{is_held, is_held_by, closed_at}
+use Rattle.kn_tables.specs.Holding.{is_held, is_held_by}
 use Rattle.kn_server_core.specs.Server.{all_asked, asked_at_loss, front_left}
 use Rattle.kn_server_core.proofs.SoundLemmas.{closed_held, not_missed, own_held}
 use Rattle.kn_server_core.proofs.LossLemmas.{told_some, told_none, front_step, none_of_kind, cons_shorter, none_left}

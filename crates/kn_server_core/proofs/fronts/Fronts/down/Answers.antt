@@ -1,4 +1,4 @@
-use Rattle.std.proofs.Common.{◌≡◌, sym, ◌∙◌, ap}
+use Rattle.std.proofs.Common.{◌∙◌, ap}
 use Rattle.kn_server_core.proofs.FrontLemmas.{removed_same, within_less}
 use Rattle.kn_server_core.proofs.fronts.Fronts.down.Goals as goal
 

@@ -1,4 +1,3 @@
-use Rattle.std.proofs.Common.{◌≡◌, sym, ◌∙◌, ap}
 use Rattle.kn_server_core.proofs.FrontLemmas.{found_same}
 use Rattle.kn_server_core.proofs.fronts.Fronts.has.Goals as goal
 

@@ -1,4 +1,4 @@
-use Rattle.std.proofs.Common.{◌≡◌, sym, ◌∙◌, ap, subst, ◌<◌}
+use Rattle.std.proofs.Common.{sym, ◌∙◌, ap, subst, ◌<◌}
 use Rattle.kn_server_core.proofs.FrontLemmas.{put_same, within_more}
 use Rattle.kn_server_core.proofs.fronts.Fronts.up.Goals as goal
 
