@@ -1,0 +1,6 @@
+mod AppLemmas
+mod IdLemmas
+mod LossLemmas
+mod SoundLemmas
+mod StreamLemmas
+mod TableLemmas

@@ -1,0 +1,9 @@
+pub mod Agent
+pub mod AgentTables
+pub mod AppOrder
+pub mod Client
+pub mod ClientTables
+pub mod EntryLists
+pub mod Keeping
+pub mod Sound
+pub mod Steps
