@@ -1,0 +1,5 @@
+pub mod Numbers
+pub mod Up
+pub mod Down
+pub mod In
+pub mod Out
