@@ -1,11 +1,12 @@
 //! The laws of words. Each speaks of every list, and of every key, since it holds whatever each packet is to the tunnel.
 
-ghost use Rattle.std.specs.Prelude.{[], ◌≡◌, ◌++◌, ◌∷◌, List};
+ghost use Rattle.std.specs.Prelude.{[], ◌≡◌, ◌++◌, ◌∷◌, List, true};
 ghost use Rattle.kn_packet.specs.declared.packet.Packet.{Packet};
-ghost use Rattle.kn_words.specs.Up.{UpItem, up_of, up_snoc};
-ghost use Rattle.kn_words.specs.Down.{DownItem, down_of, down_snoc};
-ghost use Rattle.kn_words.specs.In.{InItem, in_of, in_snoc};
-ghost use Rattle.kn_words.specs.Out.{OutItem, out_of, out_snoc};
+ghost use Rattle.kn_tunnel.specs.Cuts.{IsCutDown, IsCutIn, IsCutOut, IsCutUp};
+ghost use Rattle.kn_words.specs.Down.{DownItem, down_follows, down_of, down_ordered, down_snoc};
+ghost use Rattle.kn_words.specs.In.{InItem, in_follows, in_of, in_ordered, in_snoc};
+ghost use Rattle.kn_words.specs.Out.{OutItem, out_follows, out_of, out_ordered, out_snoc};
+ghost use Rattle.kn_words.specs.Up.{UpItem, up_follows, up_of, up_ordered, up_snoc};
 
 /// A word with one packet more at the end of its list.
 pub fn words_of_lists()
@@ -13,4 +14,28 @@ pub fn words_of_lists()
     ensures down { (item : Packet → DownItem) (ps : List Packet) (p : Packet) → down_of item (ps ++ p ∷ []) ≡ down_snoc (down_of item ps) (item p) }
     ensures inward { (item : Packet → InItem) (ps : List Packet) (p : Packet) → in_of item (ps ++ p ∷ []) ≡ in_snoc (in_of item ps) (item p) }
     ensures outward { (item : Packet → OutItem) (ps : List Packet) (p : Packet) → out_of item (ps ++ p ∷ []) ≡ out_snoc (out_of item ps) (item p) }
+{}
+
+/// A list in order stays so where a packet is appended that may follow its word.
+pub fn order_is_kept()
+    ensures up { (item : Packet → UpItem) (ps : List Packet) (p : Packet) → up_ordered item ps ≡ true → up_follows (up_of item ps) (item p) ≡ true
+        → up_ordered item (ps ++ p ∷ []) ≡ true }
+    ensures down { (item : Packet → DownItem) (ps : List Packet) (p : Packet) → down_ordered item ps ≡ true → down_follows (down_of item ps) (item p) ≡ true
+        → down_ordered item (ps ++ p ∷ []) ≡ true }
+    ensures inward { (item : Packet → InItem) (ps : List Packet) (p : Packet) → in_ordered item ps ≡ true → in_follows (in_of item ps) (item p) ≡ true
+        → in_ordered item (ps ++ p ∷ []) ≡ true }
+    ensures outward { (item : Packet → OutItem) (ps : List Packet) (p : Packet) → out_ordered item ps ≡ true → out_follows (out_of item ps) (item p) ≡ true
+        → out_ordered item (ps ++ p ∷ []) ≡ true }
+{}
+
+/// What a loss leaves of a list in order is in order, and its word is what a loss leaves of the word.
+pub fn fronts_of_lists()
+    ensures up { (item : Packet → UpItem) (ps qs : List Packet) → up_ordered item (ps ++ qs) ≡ true
+        → (up_ordered item ps ≡ true) × IsCutUp (up_of item ps) (up_of item (ps ++ qs)) }
+    ensures down { (item : Packet → DownItem) (ps qs : List Packet) → down_ordered item (ps ++ qs) ≡ true
+        → (down_ordered item ps ≡ true) × IsCutDown (down_of item ps) (down_of item (ps ++ qs)) }
+    ensures inward { (item : Packet → InItem) (ps qs : List Packet) → in_ordered item (ps ++ qs) ≡ true
+        → (in_ordered item ps ≡ true) × IsCutIn (in_of item ps) (in_of item (ps ++ qs)) }
+    ensures outward { (item : Packet → OutItem) (ps qs : List Packet) → out_ordered item (ps ++ qs) ≡ true
+        → (out_ordered item ps ≡ true) × IsCutOut (out_of item ps) (out_of item (ps ++ qs)) }
 {}

@@ -4,4 +4,4 @@
 
 mod laws;
 
-pub use laws::words_of_lists;
+pub use laws::{fronts_of_lists, order_is_kept, words_of_lists};
