@@ -1,6 +1,11 @@
 pub mod Bits
+pub mod DownGiven
 pub mod DownOrder
 pub mod Ends
+pub mod Given
 pub mod InOrder
+pub mod Joins
+pub mod OutGiven
 pub mod OutOrder
+pub mod Same
 pub mod UpOrder

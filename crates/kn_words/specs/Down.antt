@@ -45,6 +45,10 @@ down_of item (p ∷ ps) = down_cons (item p) (down_of item ps)
 abbrev pub down_word : Option ℕ → List Packet → Downward
 down_word cid ps = down_of (down_item cid) ps
 
+-- the word of two lists, one after the other
+abbrev pub down_join : Downward → Downward → Downward
+down_join v w = record { bytes = v.bytes ++ w.bytes; close = v.close || w.close }
+
 -- The order: bytes, one close.
 
 -- an item may stand before a word

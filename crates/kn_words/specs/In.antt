@@ -75,6 +75,10 @@ connect_in_word ps = in_of connect_in_item ps
 abbrev pub stream_in_word : Bool → ℕ → Option ℕ → List Packet → Inward
 stream_in_word connect app dial ps = in_of (stream_in_item connect app dial) ps
 
+-- the word of two lists, one after the other
+abbrev pub in_join : Inward → Inward → Inward
+in_join v w = record { request = v.request || w.request; cancel = v.cancel || w.cancel; bytes = v.bytes ++ w.bytes; close = v.close || w.close }
+
 -- The order: the request, a cancel, bytes, a close; each of the three that are no bytes once. Of empty bytes nothing is asked.
 
 -- an item may stand before a word

@@ -1,7 +1,7 @@
 -- What the packets from the server to an app's stream are to its tunnel. On a client's stream the keys are the app's number, which the answer to
 -- its dial has as random, and, once the server drew one, the dial's number, which bytes and closes have as connectID. A CONNECT connection has one
 -- app, so all that is on it is that app's.
-use Rattle.std.specs.Prelude.{◌++◌, ◌&&◌, ◌||◌, ℕ, Bool, true, false, List, [], ◌∷◌, suc, Option, if◌then◌else◌}
+use Rattle.std.specs.Prelude.{◌++◌, ◌&&◌, ◌||◌, ◌+◌, ℕ, Bool, true, false, List, [], ◌∷◌, suc, Option, if◌then◌else◌}
 use Rattle.kn_packet.specs.declared.packet.Packet.{Packet}
 use Rattle.kn_packet.specs.declared.packet.Packet.TheVariants.{CloseReq, CloseRsp, Data, DialCls, DialReq, DialRsp, Drain, Other}
 use Rattle.kn_tunnel.specs.Kinds.{is_empty, no_closes, no_head}
@@ -82,6 +82,10 @@ connect_out_word ps = out_of connect_out_item ps
 
 abbrev pub stream_out_word : Bool → ℕ → Option ℕ → List Packet → Outward
 stream_out_word connect app dial ps = out_of (stream_out_item connect app dial) ps
+
+-- the word of two lists, one after the other
+abbrev pub out_join : Outward → Outward → Outward
+out_join v w = record { head = last_head v.head w.head; bytes = v.bytes ++ w.bytes; closes = v.closes + w.closes }
 
 -- The order: a refusal alone; or the reply, bytes, closes. Of empty bytes nothing is asked before the head.
 

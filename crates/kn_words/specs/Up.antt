@@ -1,5 +1,5 @@
 -- What the packets from an agent to the server are to one tunnel: the dial's number is its key and, once the agent drew one, its connectID.
-use Rattle.std.specs.Prelude.{◌++◌, ◌&&◌, ◌||◌, ℕ, Bool, true, not, List, [], ◌∷◌, suc, Option, if◌then◌else◌}
+use Rattle.std.specs.Prelude.{◌++◌, ◌&&◌, ◌||◌, ◌+◌, ℕ, Bool, true, not, List, [], ◌∷◌, suc, Option, if◌then◌else◌}
 use Rattle.kn_packet.specs.declared.packet.Packet.{Packet}
 use Rattle.kn_packet.specs.declared.packet.Packet.TheVariants.{CloseReq, CloseRsp, Data, DialCls, DialReq, DialRsp, Drain, Other}
 use Rattle.kn_tunnel.specs.Kinds.{is_empty}
@@ -51,6 +51,10 @@ up_of item (p ∷ ps) = up_cons (item p) (up_of item ps)
 
 abbrev pub up_word : ℕ → Option ℕ → List Packet → Upward
 up_word dial cid ps = up_of (up_item dial cid) ps
+
+-- the word of two lists, one after the other
+abbrev pub up_join : Upward → Upward → Upward
+up_join v w = record { refusal = v.refusal || w.refusal; reply = v.reply || w.reply; bytes = v.bytes ++ w.bytes; closes = v.closes + w.closes }
 
 -- The order: a refusal or the reply, bytes, closes. Empty bytes are not seen in a word, so nothing is asked of them.
 

@@ -1,12 +1,14 @@
 //! The laws of words. Each speaks of every list, and of every key, since it holds whatever each packet is to the tunnel.
 
-ghost use Rattle.std.specs.Prelude.{[], ◌≡◌, ◌++◌, ◌∷◌, List, true};
+ghost use Rattle.std.specs.Prelude.{[], ◌≡◌, ◌++◌, ◌∷◌, Bool, List, false, filter, true};
+ghost use Rattle.std.specs.List.{AllByRecursion};
 ghost use Rattle.kn_packet.specs.declared.packet.Packet.{Packet};
 ghost use Rattle.kn_tunnel.specs.Cuts.{IsCutDown, IsCutIn, IsCutOut, IsCutUp};
-ghost use Rattle.kn_words.specs.Down.{DownItem, down_follows, down_of, down_ordered, down_snoc};
-ghost use Rattle.kn_words.specs.In.{InItem, in_follows, in_of, in_ordered, in_snoc};
-ghost use Rattle.kn_words.specs.Out.{OutItem, out_follows, out_of, out_ordered, out_snoc};
-ghost use Rattle.kn_words.specs.Up.{UpItem, up_follows, up_of, up_ordered, up_snoc};
+ghost use Rattle.kn_words.specs.Down.{DownItem, OtherDown, down_follows, down_join, down_of, down_ordered, down_snoc};
+ghost use Rattle.kn_words.specs.Given.{all_given};
+ghost use Rattle.kn_words.specs.In.{InItem, in_follows, in_join, in_of, in_ordered, in_snoc};
+ghost use Rattle.kn_words.specs.Out.{OtherOut, OutItem, out_follows, out_join, out_of, out_ordered, out_snoc};
+ghost use Rattle.kn_words.specs.Up.{UpItem, up_follows, up_join, up_of, up_ordered, up_snoc};
 
 /// A word with one packet more at the end of its list.
 pub fn words_of_lists()
@@ -38,4 +40,33 @@ pub fn fronts_of_lists()
         → (in_ordered item ps ≡ true) × IsCutIn (in_of item ps) (in_of item (ps ++ qs)) }
     ensures outward { (item : Packet → OutItem) (ps qs : List Packet) → out_ordered item (ps ++ qs) ≡ true
         → (out_ordered item ps ≡ true) × IsCutOut (out_of item ps) (out_of item (ps ++ qs)) }
+{}
+
+/// The word of two lists, one after the other.
+pub fn words_are_joined()
+    ensures up { (item : Packet → UpItem) (ps qs : List Packet) → up_of item (ps ++ qs) ≡ up_join (up_of item ps) (up_of item qs) }
+    ensures down { (item : Packet → DownItem) (ps qs : List Packet) → down_of item (ps ++ qs) ≡ down_join (down_of item ps) (down_of item qs) }
+    ensures inward { (item : Packet → InItem) (ps qs : List Packet) → in_of item (ps ++ qs) ≡ in_join (in_of item ps) (in_of item qs) }
+    ensures outward { (item : Packet → OutItem) (ps qs : List Packet) → out_of item (ps ++ qs) ≡ out_join (out_of item ps) (out_of item qs) }
+{}
+
+/// Where many tunnels are told at once, the word of each gets what was given for it, once, and nothing else. `own` tells its entries
+/// from those of others.
+pub fn each_gets_its_own<E>()
+    ensures to_stream { (item : Packet → OutItem) (give : E → List Packet) (own : E → Bool)
+        → ((e : E) → own e ≡ false → AllByRecursion (λ p. item p ≡ OtherOut) (give e))
+        → (ps : List Packet) (es : List E) (h : E) → filter own es ≡ h ∷ []
+        → out_of item (ps ++ all_given give es) ≡ out_of item (ps ++ give h) }
+    ensures nothing_to_stream { (item : Packet → OutItem) (give : E → List Packet) (own : E → Bool)
+        → ((e : E) → own e ≡ false → AllByRecursion (λ p. item p ≡ OtherOut) (give e))
+        → (ps : List Packet) (es : List E) → filter own es ≡ []
+        → out_of item (ps ++ all_given give es) ≡ out_of item ps }
+    ensures to_agent { (item : Packet → DownItem) (give : E → List Packet) (own : E → Bool)
+        → ((e : E) → own e ≡ false → AllByRecursion (λ p. item p ≡ OtherDown) (give e))
+        → (ps : List Packet) (es : List E) (h : E) → filter own es ≡ h ∷ []
+        → down_of item (ps ++ all_given give es) ≡ down_of item (ps ++ give h) }
+    ensures nothing_to_agent { (item : Packet → DownItem) (give : E → List Packet) (own : E → Bool)
+        → ((e : E) → own e ≡ false → AllByRecursion (λ p. item p ≡ OtherDown) (give e))
+        → (ps : List Packet) (es : List E) → filter own es ≡ []
+        → down_of item (ps ++ all_given give es) ≡ down_of item ps }
 {}

@@ -4,4 +4,6 @@
 
 mod laws;
 
-pub use laws::{fronts_of_lists, order_is_kept, words_of_lists};
+pub use laws::{
+    each_gets_its_own, fronts_of_lists, order_is_kept, words_are_joined, words_of_lists,
+};
