@@ -2,10 +2,13 @@ pub mod Bits
 pub mod DownGiven
 pub mod DownOrder
 pub mod Ends
+pub mod Fresh
 pub mod Given
 pub mod InOrder
 pub mod Joins
+pub mod Named
 pub mod OutGiven
 pub mod OutOrder
+pub mod Puts
 pub mod Same
 pub mod UpOrder

@@ -1,14 +1,17 @@
 //! The laws of words. Each speaks of every list, and of every key, since it holds whatever each packet is to the tunnel.
 
-ghost use Rattle.std.specs.Prelude.{[], ◌≡◌, ◌++◌, ◌∷◌, Bool, List, false, filter, true};
+ghost use Rattle.std.specs.Prelude.{[], ◌≡◌, ◌++◌, ◌∷◌, Bool, List, None, Some, false, filter, if◌then◌else◌, true, ℕ};
 ghost use Rattle.std.specs.List.{AllByRecursion};
 ghost use Rattle.kn_packet.specs.declared.packet.Packet.{Packet};
 ghost use Rattle.kn_tunnel.specs.Cuts.{IsCutDown, IsCutIn, IsCutOut, IsCutUp};
-ghost use Rattle.kn_words.specs.Down.{DownItem, OtherDown, down_follows, down_join, down_of, down_ordered, down_snoc};
+ghost use Rattle.kn_tunnel.specs.Steps.{no_down, no_in, no_out, no_up};
+ghost use Rattle.kn_tunnel.specs.Tunnel.{Reply};
+ghost use Rattle.kn_words.specs.Below.{ConnectsBelow, RandomsBelow};
+ghost use Rattle.kn_words.specs.Down.{DownItem, OtherDown, down_follows, down_join, down_of, down_ordered, down_snoc, down_word, has_request};
 ghost use Rattle.kn_words.specs.Given.{all_given};
-ghost use Rattle.kn_words.specs.In.{InItem, in_follows, in_join, in_of, in_ordered, in_snoc};
-ghost use Rattle.kn_words.specs.Out.{OtherOut, OutItem, out_follows, out_join, out_of, out_ordered, out_snoc};
-ghost use Rattle.kn_words.specs.Up.{UpItem, up_follows, up_join, up_of, up_ordered, up_snoc};
+ghost use Rattle.kn_words.specs.In.{InItem, in_follows, in_join, in_of, in_ordered, in_snoc, in_word};
+ghost use Rattle.kn_words.specs.Out.{OtherOut, OutItem, ReplyOut, out_follows, out_join, out_of, out_ordered, out_snoc, out_word};
+ghost use Rattle.kn_words.specs.Up.{UpItem, up_follows, up_join, up_of, up_ordered, up_snoc, up_word};
 
 /// A word with one packet more at the end of its list.
 pub fn words_of_lists()
@@ -69,4 +72,23 @@ pub fn each_gets_its_own<E>()
         → ((e : E) → own e ≡ false → AllByRecursion (λ p. item p ≡ OtherDown) (give e))
         → (ps : List Packet) (es : List E) → filter own es ≡ []
         → down_of item (ps ++ all_given give es) ≡ down_of item ps }
+{}
+
+/// A number that is not drawn yet. With it as key a list has the word that it has without one.
+pub fn new_numbers_are_nowhere()
+    ensures dial_to_server { (app dial : ℕ) (ps : List Packet) → ConnectsBelow dial ps → in_word app (Some dial) ps ≡ in_word app None ps }
+    ensures dial_to_client { (app dial : ℕ) (ps : List Packet) → ConnectsBelow dial ps → out_word app (Some dial) ps ≡ out_word app None ps }
+    ensures app_to_server { (app : ℕ) (ps : List Packet) → RandomsBelow app ps → in_word app None ps ≡ no_in }
+    ensures app_to_client { (app : ℕ) (ps : List Packet) → RandomsBelow app ps → out_word app None ps ≡ no_out }
+    ensures dial_from_agent { (dial : ℕ) (ps : List Packet) → RandomsBelow dial ps → up_word dial None ps ≡ no_up }
+    ensures dial_to_agent { (dial : ℕ) (ps : List Packet) → RandomsBelow dial ps → has_request dial ps ≡ false }
+    ensures connection_from_agent { (dial connection : ℕ) (ps : List Packet) → ConnectsBelow connection ps
+        → up_word dial (Some connection) ps ≡ up_word dial None ps }
+    ensures connection_to_agent { (connection : ℕ) (ps : List Packet) → ConnectsBelow connection ps → down_word (Some connection) ps ≡ no_down }
+{}
+
+/// What goes to an end that lost the list is dropped; else it stands at the end of the word.
+pub fn packets_are_put_or_dropped()
+    ensures reply { (item : Packet → OutItem) (ps : List Packet) (p : Packet) (there : Bool) → item p ≡ ReplyOut
+        → out_of item (if there then ps ++ p ∷ [] else ps) ≡ record (out_of item ps) { head = if there then Reply else (out_of item ps).head } }
 {}

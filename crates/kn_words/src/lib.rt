@@ -5,5 +5,6 @@
 mod laws;
 
 pub use laws::{
-    each_gets_its_own, fronts_of_lists, order_is_kept, words_are_joined, words_of_lists,
+    each_gets_its_own, fronts_of_lists, new_numbers_are_nowhere, order_is_kept,
+    packets_are_put_or_dropped, words_are_joined, words_of_lists,
 };
