@@ -9,6 +9,9 @@ pub mod Joins
 pub mod Named
 pub mod OutGiven
 pub mod OutOrder
+pub mod Parts
 pub mod Puts
+pub mod ReadBack
+pub mod Requests
 pub mod Same
 pub mod UpOrder

@@ -4,4 +4,6 @@ pub mod Given
 pub mod In
 pub mod Numbers
 pub mod Out
+pub mod Parts
+pub mod Standing
 pub mod Up

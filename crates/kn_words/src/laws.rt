@@ -1,17 +1,21 @@
 //! The laws of words. Each speaks of every list, and of every key, since it holds whatever each packet is to the tunnel.
 
-ghost use Rattle.std.specs.Prelude.{[], ◌≡◌, ◌++◌, ◌∷◌, Bool, List, None, Some, false, filter, if◌then◌else◌, true, ℕ};
+ghost use Rattle.std.specs.Prelude.{[], ◌≡◌, ◌++◌, ◌||◌, ◌∷◌, Bool, List, None, Option, Some, drop, false, filter, if◌then◌else◌, map, pos, take, true, ℕ, ℤ};
 ghost use Rattle.std.specs.List.{AllByRecursion};
 ghost use Rattle.kn_packet.specs.declared.packet.Packet.{Packet};
+ghost use Rattle.kn_packet.specs.declared.packet.Packet.TheVariants.{CloseReq, DialReq, DialRsp};
 ghost use Rattle.kn_tunnel.specs.Cuts.{IsCutDown, IsCutIn, IsCutOut, IsCutUp};
-ghost use Rattle.kn_tunnel.specs.Steps.{no_down, no_in, no_out, no_up};
-ghost use Rattle.kn_tunnel.specs.Tunnel.{Reply};
+ghost use Rattle.kn_tunnel.specs.Steps.{appended, no_down, no_in, no_out, no_up, one_more_close};
+ghost use Rattle.kn_tunnel.specs.Tunnel.{Refusal, Reply};
 ghost use Rattle.kn_words.specs.Below.{ConnectsBelow, RandomsBelow};
-ghost use Rattle.kn_words.specs.Down.{DownItem, OtherDown, down_follows, down_join, down_of, down_ordered, down_snoc, down_word, has_request};
+ghost use Rattle.kn_words.specs.Down.{BytesDown, CloseDown, DownItem, OtherDown, down_follows, down_item, down_join, down_of, down_ordered, down_snoc, down_word, has_request, is_request};
 ghost use Rattle.kn_words.specs.Given.{all_given};
-ghost use Rattle.kn_words.specs.In.{InItem, in_follows, in_join, in_of, in_ordered, in_snoc, in_word};
-ghost use Rattle.kn_words.specs.Out.{OtherOut, OutItem, ReplyOut, out_follows, out_join, out_of, out_ordered, out_snoc, out_word};
-ghost use Rattle.kn_words.specs.Up.{UpItem, up_follows, up_join, up_of, up_ordered, up_snoc, up_word};
+ghost use Rattle.kn_words.specs.In.{BytesIn, CancelIn, CloseIn, InItem, RequestIn, in_follows, in_join, in_of, in_ordered, in_snoc, in_word};
+ghost use Rattle.kn_words.specs.Numbers.{is_drawn_number};
+ghost use Rattle.kn_words.specs.Out.{BytesOut, CloseOut, OtherOut, OutItem, RefusalOut, ReplyOut, out_follows, out_join, out_of, out_ordered, out_snoc, out_word};
+ghost use Rattle.kn_words.specs.Parts.{all_bytes};
+ghost use Rattle.kn_words.specs.Standing.{Stands};
+ghost use Rattle.kn_words.specs.Up.{BytesUp, CloseUp, RefusalUp, ReplyUp, UpItem, up_follows, up_item, up_join, up_of, up_ordered, up_snoc, up_word};
 
 /// A word with one packet more at the end of its list.
 pub fn words_of_lists()
@@ -87,8 +91,76 @@ pub fn new_numbers_are_nowhere()
     ensures connection_to_agent { (connection : ℕ) (ps : List Packet) → ConnectsBelow connection ps → down_word (Some connection) ps ≡ no_down }
 {}
 
-/// What goes to an end that lost the list is dropped; else it stands at the end of the word.
-pub fn packets_are_put_or_dropped()
+/// What an agent sends to a server that lost the link is dropped; else it stands at the end of the word.
+pub fn from_agent()
+    ensures refusal { (item : Packet → UpItem) (ps : List Packet) (p : Packet) (there : Bool) → item p ≡ RefusalUp
+        → up_of item (if there then ps ++ p ∷ [] else ps) ≡ record (up_of item ps) { refusal = (up_of item ps).refusal || there } }
+    ensures reply { (item : Packet → UpItem) (ps : List Packet) (p : Packet) (there : Bool) → item p ≡ ReplyUp
+        → up_of item (if there then ps ++ p ∷ [] else ps) ≡ record (up_of item ps) { reply = (up_of item ps).reply || there } }
+    ensures bytes { (item : Packet → UpItem) (ps : List Packet) (p : Packet) (there : Bool) (bytes : List ℕ) → item p ≡ BytesUp bytes
+        → up_of item (if there then ps ++ p ∷ [] else ps) ≡ record (up_of item ps) { bytes = appended there (up_of item ps).bytes bytes } }
+    ensures close { (item : Packet → UpItem) (ps : List Packet) (p : Packet) (there : Bool) → item p ≡ CloseUp
+        → up_of item (if there then ps ++ p ∷ [] else ps) ≡ record (up_of item ps) { closes = one_more_close there (up_of item ps).closes } }
+{}
+
+/// The same of what the server sends to an agent.
+pub fn to_agent()
+    ensures bytes { (item : Packet → DownItem) (ps : List Packet) (p : Packet) (there : Bool) (bytes : List ℕ) → item p ≡ BytesDown bytes
+        → down_of item (if there then ps ++ p ∷ [] else ps) ≡ record (down_of item ps) { bytes = appended there (down_of item ps).bytes bytes } }
+    ensures close { (item : Packet → DownItem) (ps : List Packet) (p : Packet) (there : Bool) → item p ≡ CloseDown
+        → down_of item (if there then ps ++ p ∷ [] else ps) ≡ record (down_of item ps) { close = (down_of item ps).close || there } }
+{}
+
+/// The same of what an app's stream sends to the server.
+pub fn from_stream()
+    ensures request { (item : Packet → InItem) (ps : List Packet) (p : Packet) (there : Bool) → item p ≡ RequestIn
+        → in_of item (if there then ps ++ p ∷ [] else ps) ≡ record (in_of item ps) { request = (in_of item ps).request || there } }
+    ensures cancel { (item : Packet → InItem) (ps : List Packet) (p : Packet) (there : Bool) → item p ≡ CancelIn
+        → in_of item (if there then ps ++ p ∷ [] else ps) ≡ record (in_of item ps) { cancel = (in_of item ps).cancel || there } }
+    ensures bytes { (item : Packet → InItem) (ps : List Packet) (p : Packet) (there : Bool) (bytes : List ℕ) → item p ≡ BytesIn bytes
+        → in_of item (if there then ps ++ p ∷ [] else ps) ≡ record (in_of item ps) { bytes = appended there (in_of item ps).bytes bytes } }
+    ensures close { (item : Packet → InItem) (ps : List Packet) (p : Packet) (there : Bool) → item p ≡ CloseIn
+        → in_of item (if there then ps ++ p ∷ [] else ps) ≡ record (in_of item ps) { close = (in_of item ps).close || there } }
+{}
+
+/// The same of what the server sends to an app's stream.
+pub fn to_stream()
+    ensures refusal { (item : Packet → OutItem) (ps : List Packet) (p : Packet) (there : Bool) → item p ≡ RefusalOut
+        → out_of item (if there then ps ++ p ∷ [] else ps) ≡ record (out_of item ps) { head = if there then Refusal else (out_of item ps).head } }
     ensures reply { (item : Packet → OutItem) (ps : List Packet) (p : Packet) (there : Bool) → item p ≡ ReplyOut
         → out_of item (if there then ps ++ p ∷ [] else ps) ≡ record (out_of item ps) { head = if there then Reply else (out_of item ps).head } }
+    ensures bytes { (item : Packet → OutItem) (ps : List Packet) (p : Packet) (there : Bool) (bytes : List ℕ) → item p ≡ BytesOut bytes
+        → out_of item (if there then ps ++ p ∷ [] else ps) ≡ record (out_of item ps) { bytes = appended there (out_of item ps).bytes bytes } }
+    ensures close { (item : Packet → OutItem) (ps : List Packet) (p : Packet) (there : Bool) → item p ≡ CloseOut
+        → out_of item (if there then ps ++ p ∷ [] else ps) ≡ record (out_of item ps) { closes = one_more_close there (out_of item ps).closes } }
+{}
+
+/// Bytes that are too many for one packet go in several, and are one run of bytes in the word.
+pub fn parts_are_joined()
+    ensures two { (count : ℕ) (bytes : List ℕ) → all_bytes (take count bytes ∷ drop count bytes ∷ []) ≡ bytes }
+    ensures to_stream { (item : Packet → OutItem) (give : List ℕ → Packet) → ((bytes : List ℕ) → item (give bytes) ≡ BytesOut bytes)
+        → (ps : List Packet) (parts : List (List ℕ))
+        → out_of item (ps ++ map give parts) ≡ record (out_of item ps) { bytes = (out_of item ps).bytes ++ all_bytes parts } }
+    ensures to_agent { (item : Packet → DownItem) (give : List ℕ → Packet) → ((bytes : List ℕ) → item (give bytes) ≡ BytesDown bytes)
+        → (ps : List Packet) (parts : List (List ℕ))
+        → down_of item (ps ++ map give parts) ≡ record (down_of item ps) { bytes = (down_of item ps).bytes ++ all_bytes parts } }
+{}
+
+/// What a word tells stands in its list.
+pub fn words_tell_packets()
+    ensures reply { (dial : ℕ) (connection : Option ℕ) (ps : List Packet) → (up_word dial connection ps).reply ≡ true
+        → Stands (up_item dial connection) ReplyUp ps }
+    ensures close { (connection : Option ℕ) (ps : List Packet) → (down_word connection ps).close ≡ true → Stands (down_item connection) CloseDown ps }
+    ensures request { (dial : ℕ) (ps : List Packet) → has_request dial ps ≡ true → Stands (is_request dial) true ps }
+    ensures reply_is { (dial : ℕ) (connection : Option ℕ) (p : Packet) → up_item dial connection p ≡ ReplyUp
+        → (c : ℤ) × (r : ℤ) × (p ≡ DialRsp [] c r) × (is_drawn_number connection c ≡ true) }
+    ensures close_is { (connection : Option ℕ) (p : Packet) → down_item connection p ≡ CloseDown
+        → (c : ℤ) × (p ≡ CloseReq c) × (is_drawn_number connection c ≡ true) }
+{}
+
+/// A request stands in two lists, one after the other, where it stands in one of them.
+pub fn requests_are_joined()
+    ensures joined { (dial : ℕ) (ps qs : List Packet) → has_request dial (ps ++ qs) ≡ (has_request dial ps || has_request dial qs) }
+    ensures own { (dial : ℕ) (protocol address : List ℕ) (ps : List Packet)
+        → has_request dial (ps ++ DialReq protocol address (pos dial) ∷ []) ≡ true }
 {}
