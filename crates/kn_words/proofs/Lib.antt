@@ -5,6 +5,7 @@ pub mod Ends
 pub mod Fresh
 pub mod Given
 pub mod InOrder
+pub mod Items
 pub mod Joins
 pub mod Named
 pub mod OutGiven
@@ -14,4 +15,5 @@ pub mod Puts
 pub mod ReadBack
 pub mod Requests
 pub mod Same
+pub mod Taken
 pub mod UpOrder

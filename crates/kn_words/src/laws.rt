@@ -3,19 +3,20 @@
 ghost use Rattle.std.specs.Prelude.{[], ◌≡◌, ◌++◌, ◌||◌, ◌∷◌, Bool, List, None, Option, Some, drop, false, filter, if◌then◌else◌, map, pos, take, true, ℕ, ℤ};
 ghost use Rattle.std.specs.List.{AllByRecursion};
 ghost use Rattle.kn_packet.specs.declared.packet.Packet.{Packet};
-ghost use Rattle.kn_packet.specs.declared.packet.Packet.TheVariants.{CloseReq, DialReq, DialRsp};
+ghost use Rattle.kn_packet.specs.declared.packet.Packet.TheVariants.{CloseReq, Data, DialReq, DialRsp};
 ghost use Rattle.kn_tunnel.specs.Cuts.{IsCutDown, IsCutIn, IsCutOut, IsCutUp};
+ghost use Rattle.kn_tunnel.specs.Kinds.{has};
 ghost use Rattle.kn_tunnel.specs.Steps.{appended, no_down, no_in, no_out, no_up, one_more_close};
-ghost use Rattle.kn_tunnel.specs.Tunnel.{Refusal, Reply};
+ghost use Rattle.kn_tunnel.specs.Tunnel.{Downward, Inward, NoHead, Outward, Refusal, Reply, Upward};
 ghost use Rattle.kn_words.specs.Below.{ConnectsBelow, RandomsBelow};
-ghost use Rattle.kn_words.specs.Down.{BytesDown, CloseDown, DownItem, OtherDown, down_follows, down_item, down_join, down_of, down_ordered, down_snoc, down_word, has_request, is_request};
+ghost use Rattle.kn_words.specs.Down.{BytesDown, CloseDown, DownItem, OtherDown, down_before, down_cons, down_follows, down_item, down_join, down_of, down_ordered, down_snoc, down_word, has_request, is_request};
 ghost use Rattle.kn_words.specs.Given.{all_given};
-ghost use Rattle.kn_words.specs.In.{BytesIn, CancelIn, CloseIn, InItem, RequestIn, in_follows, in_join, in_of, in_ordered, in_snoc, in_word};
+ghost use Rattle.kn_words.specs.In.{BytesIn, CancelIn, CloseIn, InItem, RequestIn, in_before, in_cons, in_follows, in_join, in_of, in_ordered, in_snoc, in_word, stream_in_item};
 ghost use Rattle.kn_words.specs.Numbers.{is_drawn_number};
-ghost use Rattle.kn_words.specs.Out.{BytesOut, CloseOut, OtherOut, OutItem, RefusalOut, ReplyOut, out_follows, out_join, out_of, out_ordered, out_snoc, out_word};
+ghost use Rattle.kn_words.specs.Out.{BytesOut, CloseOut, OtherOut, OutItem, RefusalOut, ReplyOut, out_before, out_cons, out_follows, out_join, out_of, out_ordered, out_snoc, out_word, stream_out_item};
 ghost use Rattle.kn_words.specs.Parts.{all_bytes};
 ghost use Rattle.kn_words.specs.Standing.{Stands};
-ghost use Rattle.kn_words.specs.Up.{BytesUp, CloseUp, RefusalUp, ReplyUp, UpItem, up_follows, up_item, up_join, up_of, up_ordered, up_snoc, up_word};
+ghost use Rattle.kn_words.specs.Up.{BytesUp, CloseUp, RefusalUp, ReplyUp, UpItem, up_before, up_cons, up_follows, up_item, up_join, up_of, up_ordered, up_snoc, up_word};
 
 /// A word with one packet more at the end of its list.
 pub fn words_of_lists()
@@ -163,4 +164,30 @@ pub fn requests_are_joined()
     ensures joined { (dial : ℕ) (ps qs : List Packet) → has_request dial (ps ++ qs) ≡ (has_request dial ps || has_request dial qs) }
     ensures own { (dial : ℕ) (protocol address : List ℕ) (ps : List Packet)
         → has_request dial (ps ++ DialReq protocol address (pos dial) ∷ []) ≡ true }
+{}
+
+/// The first packet of a list in order is taken. What the tunnel's event leaves of the word is the word of the rest.
+pub fn first_is_taken()
+    ensures reply { (w : Upward) → up_before ReplyUp w ≡ true → record (up_cons ReplyUp w) { reply = false } ≡ w }
+    ensures refusal { (w : Upward) → up_before RefusalUp w ≡ true → record (up_cons RefusalUp w) { refusal = false } ≡ w }
+    ensures close { (w : Downward) → down_before CloseDown w ≡ true → record (down_cons CloseDown w) { close = false } ≡ w }
+    ensures request { (w : Inward) → in_before RequestIn w ≡ true → record (in_cons RequestIn w) { request = false } ≡ w }
+    ensures cancel { (w : Inward) → in_before CancelIn w ≡ true → record (in_cons CancelIn w) { cancel = false } ≡ w }
+    ensures close_of_app { (w : Inward) → in_before CloseIn w ≡ true → record (in_cons CloseIn w) { close = false } ≡ w }
+    ensures refusal_to_app { (w : Outward) → out_before RefusalOut w ≡ true → record (out_cons RefusalOut w) { head = NoHead } ≡ w }
+    ensures reply_to_app { (w : Outward) → out_before ReplyOut w ≡ true → record (out_cons ReplyOut w) { head = NoHead } ≡ w }
+{}
+
+/// What an end draws a number for is told by that number: each packet with it is its tunnel's.
+pub fn own_packets_are_found()
+    ensures reply { (dial connection : ℕ) (r : ℤ) → up_item dial (Some connection) (DialRsp [] (pos connection) r) ≡ ReplyUp }
+    ensures refusal { (dial : ℕ) (connection : Option ℕ) (error : List ℕ) (c : ℤ) → has error ≡ true
+        → up_item dial connection (DialRsp error c (pos dial)) ≡ RefusalUp }
+    ensures to_app { (connect : Bool) (app dial : ℕ) (error bytes : List ℕ)
+        → stream_out_item connect app (Some dial) (Data (pos dial) error bytes) ≡ BytesOut bytes }
+    ensures to_server { (connect : Bool) (app dial : ℕ) (error bytes : List ℕ)
+        → stream_in_item connect app (Some dial) (Data (pos dial) error bytes) ≡ BytesIn bytes }
+    ensures to_agent { (connection : ℕ) (error bytes : List ℕ) → down_item (Some connection) (Data (pos connection) error bytes) ≡ BytesDown bytes }
+    ensures from_agent { (dial connection : ℕ) (error bytes : List ℕ)
+        → up_item dial (Some connection) (Data (pos connection) error bytes) ≡ BytesUp bytes }
 {}

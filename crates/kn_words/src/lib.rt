@@ -5,7 +5,7 @@
 mod laws;
 
 pub use laws::{
-    each_gets_its_own, from_agent, from_stream, fronts_of_lists, new_numbers_are_nowhere,
-    order_is_kept, parts_are_joined, requests_are_joined, to_agent, to_stream, words_are_joined,
-    words_of_lists, words_tell_packets,
+    each_gets_its_own, first_is_taken, from_agent, from_stream, fronts_of_lists,
+    new_numbers_are_nowhere, order_is_kept, own_packets_are_found, parts_are_joined,
+    requests_are_joined, to_agent, to_stream, words_are_joined, words_of_lists, words_tell_packets,
 };
