@@ -1,16 +1,16 @@
 -- A number that is not drawn yet: with it as key a list has the word that it has without one, and nothing is asked or answered under it.
-use Rattle.std.proofs.Common.{◌≡◌, ◌||◌, ℕ, ℤ, Bool, true, false, List, [], ◌∷◌, Option, None, Some, refl, ap, ◌∙◌}
+use Rattle.std.proofs.Common.{◌≡◌, ℕ, false, List, [], ◌∷◌, None, Some, refl}
 use Rattle.std.specs.List.{AllByRecursion}
 use Rattle.kn_packet.specs.declared.packet.Packet.{Packet}
 use Rattle.kn_packet.specs.declared.packet.Packet.TheVariants.{CloseReq, CloseRsp, Data, DialCls, DialReq, DialRsp, Drain, Other}
 use Rattle.kn_tunnel.specs.Steps.{no_down, no_in, no_out, no_up}
 use Rattle.kn_words.specs.Below.{ConnectBelow, ConnectsBelow, RandomBelow, RandomsBelow}
-use Rattle.kn_words.specs.Down.{OtherDown, down_item, down_ordered, down_word, has_request, is_request}
+use Rattle.kn_words.specs.Down.{OtherDown, down_item, down_word, has_request, is_request}
 use Rattle.kn_words.specs.In.{OtherIn, in_item, in_ordered, in_word}
 use Rattle.kn_words.specs.Out.{OtherOut, out_item, out_ordered, out_word}
 use Rattle.kn_words.specs.Up.{OtherUp, up_item, up_ordered, up_word}
 use Rattle.kn_words.proofs.Named.{not_named}
-use Rattle.kn_words.proofs.Same.{down_none, down_order_same, down_same, in_none, in_order_same, in_same, out_none, out_order_same, out_same, up_none, up_order_same, up_same}
+use Rattle.kn_words.proofs.Same.{down_none, in_none, in_order_same, in_same, out_none, out_order_same, out_same, up_none, up_order_same, up_same}
 
 each : {A : Type 0} (P Q : A → Type 0) (f : (x : A) → P x → Q x) (xs : List A) → AllByRecursion P xs → AllByRecursion Q xs
 each P Q f [] h = tt

@@ -1,5 +1,5 @@
 -- What single packets are to a tunnel: its own by the number that it drew, others' by any other.
-use Rattle.std.proofs.Common.{◌≡◌, ℕ, ℤ, pos, Bool, true, false, cond, List, [], ◌∷◌, Option, None, Some, refl, ap}
+use Rattle.std.proofs.Common.{◌≡◌, ℕ, ℤ, pos, Bool, true, false, List, [], ◌∷◌, Option, Some, refl}
 use Rattle.kn_packet.specs.declared.packet.Packet.TheVariants.{CloseReq, CloseRsp, Data, DialCls, DialReq, DialRsp}
 use Rattle.kn_tunnel.specs.Kinds.{has}
 use Rattle.kn_words.specs.Down.{BytesDown, CloseDown, OtherDown, down_item}

@@ -1,5 +1,5 @@
 -- Numbers that packets name.
-use Rattle.std.proofs.Common.{◌≡◌, ◌==◌, ◌<◌, ℕ, ℤ, pos, negsuc, Bool, true, false, Option, None, Some, refl, sym, ap, ◌∙◌, eqb-true, arith}
+use Rattle.std.proofs.Common.{◌≡◌, ℕ, ℤ, pos, negsuc, true, false, Option, None, Some, refl, sym, ap, ◌∙◌, eqb-true, arith}
 use Rattle.std.proofs.lemmas.Bool.{eq-eqb, ne_eqb}
 use Rattle.kn_words.specs.Below.{IsBelow}
 use Rattle.kn_words.specs.Numbers.{is_drawn_number, is_number}

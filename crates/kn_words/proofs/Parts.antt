@@ -1,5 +1,5 @@
 -- Bytes that go in several packets are one run of bytes in the word.
-use Rattle.std.proofs.Common.{◌≡◌, ◌++◌, ◌+◌, ◌||◌, ℕ, Bool, true, false, not, cond, List, [], ◌∷◌, map, take, drop, refl, sym, ap, ◌∙◌, append_assoc, append-nil, take-append-drop, arith}
+use Rattle.std.proofs.Common.{◌≡◌, ◌++◌, ◌+◌, ◌||◌, ℕ, Bool, true, false, cond, List, [], ◌∷◌, map, take, drop, refl, ap, ◌∙◌, append-nil, take-append-drop, arith}
 use Rattle.kn_tunnel.specs.Order.{down_bytes_follow, out_bytes_follow}
 use Rattle.kn_tunnel.specs.Steps.{appended, no_down, no_out}
 use Rattle.kn_tunnel.specs.Tunnel.{Downward, Outward}

@@ -1,9 +1,9 @@
 -- A word after one packet was put at the end of its list, or dropped where the other end has lost it.
-use Rattle.std.proofs.Common.{◌≡◌, ◌++◌, ◌||◌, ℕ, Bool, true, false, cond, List, [], ◌∷◌, suc, refl, sym, ap, ◌∙◌}
+use Rattle.std.proofs.Common.{◌≡◌, ◌++◌, ◌||◌, ℕ, Bool, true, false, cond, List, [], ◌∷◌, refl, ap, ◌∙◌}
 use Rattle.kn_tunnel.specs.Kinds.{implies}
 use Rattle.kn_tunnel.specs.Steps.{appended, one_more_close}
-use Rattle.kn_tunnel.specs.Tunnel.{Downward, Head, Inward, Outward, Refusal, Reply, Upward}
-use Rattle.kn_words.specs.Down.{BytesDown, CloseDown, DownItem, OtherDown, down_follows, down_of, down_ordered, down_snoc, has_request, is_request}
+use Rattle.kn_tunnel.specs.Tunnel.{Refusal, Reply}
+use Rattle.kn_words.specs.Down.{BytesDown, CloseDown, DownItem, OtherDown, down_follows, down_of, down_ordered, down_snoc}
 use Rattle.kn_words.specs.In.{BytesIn, CancelIn, CloseIn, InItem, OtherIn, RequestIn, in_follows, in_of, in_ordered, in_snoc}
 use Rattle.kn_words.specs.Out.{BytesOut, CloseOut, OtherOut, OutItem, RefusalOut, ReplyOut, out_follows, out_of, out_ordered, out_snoc}
 use Rattle.kn_words.specs.Up.{BytesUp, CloseUp, OtherUp, RefusalUp, ReplyUp, UpItem, up_follows, up_of, up_ordered, up_snoc}

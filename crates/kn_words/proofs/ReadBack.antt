@@ -1,9 +1,9 @@
 -- What a word tells stands in its list.
-use Rattle.std.proofs.Common.{◌≡◌, ◌++◌, ◌||◌, ℕ, ℤ, Bool, true, false, cond, List, [], ◌∷◌, Option, suc, refl, sym, ap, ◌∙◌}
+use Rattle.std.proofs.Common.{◌≡◌, ◌||◌, ℕ, ℤ, Bool, true, false, cond, List, [], ◌∷◌, Option, refl, ap}
 use Rattle.kn_packet.specs.declared.packet.Packet.{Packet}
 use Rattle.kn_packet.specs.declared.packet.Packet.TheVariants.{CloseReq, CloseRsp, Data, DialCls, DialReq, DialRsp, Drain, Other}
 use Rattle.kn_tunnel.specs.Kinds.{is_refusal, is_reply, is_zero}
-use Rattle.kn_tunnel.specs.Tunnel.{Downward, Head, Inward, NoHead, Outward, Refusal, Reply, Upward}
+use Rattle.kn_tunnel.specs.Tunnel.{Head, NoHead, Refusal, Reply}
 use Rattle.kn_words.specs.Down.{BytesDown, CloseDown, DownItem, OtherDown, down_cons, down_item, down_of, has_request, is_request}
 use Rattle.kn_words.specs.In.{BytesIn, CancelIn, CloseIn, InItem, OtherIn, RequestIn, in_cons, in_of}
 use Rattle.kn_words.specs.Numbers.{is_drawn_number, is_number}

@@ -1,11 +1,11 @@
 -- Two keys to which each packet of a list is the same have the same word of it; a key to which all are others' has the empty one.
-use Rattle.std.proofs.Common.{◌≡◌, ◌&&◌, Bool, true, List, [], ◌∷◌, refl, ap, ◌∙◌}
+use Rattle.std.proofs.Common.{◌≡◌, List, [], ◌∷◌, refl}
 use Rattle.std.specs.List.{AllByRecursion}
 use Rattle.kn_tunnel.specs.Steps.{no_down, no_in, no_out, no_up}
-use Rattle.kn_words.specs.Down.{DownItem, OtherDown, down_before, down_cons, down_of, down_ordered}
-use Rattle.kn_words.specs.In.{InItem, OtherIn, in_before, in_cons, in_of, in_ordered}
-use Rattle.kn_words.specs.Out.{OtherOut, OutItem, out_before, out_cons, out_of, out_ordered}
-use Rattle.kn_words.specs.Up.{OtherUp, UpItem, up_before, up_cons, up_of, up_ordered}
+use Rattle.kn_words.specs.Down.{DownItem, OtherDown, down_of, down_ordered}
+use Rattle.kn_words.specs.In.{InItem, OtherIn, in_of, in_ordered}
+use Rattle.kn_words.specs.Out.{OtherOut, OutItem, out_of, out_ordered}
+use Rattle.kn_words.specs.Up.{OtherUp, UpItem, up_of, up_ordered}
 
 pub up_same : {A : Type 0} (f g : A → UpItem) (ps : List A) → AllByRecursion (λ p. f p ≡ g p) ps → up_of f ps ≡ up_of g ps
 up_same f g [] h = refl

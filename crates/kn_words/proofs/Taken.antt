@@ -1,6 +1,6 @@
 -- The first packet of a list in order is taken: what the events leave of the word is the word of the rest, and what they ask of it holds.
-use Rattle.std.proofs.Common.{◌≡◌, ◌++◌, ◌&&◌, ◌||◌, ℕ, Bool, true, false, not, List, [], ◌∷◌, length, take, drop, suc, pred, refl, sym, ap, ◌∙◌}
-use Rattle.kn_tunnel.specs.Kinds.{has, is_empty, is_refusal, is_reply, no_closes, no_head}
+use Rattle.std.proofs.Common.{◌≡◌, ◌++◌, ◌&&◌, ◌||◌, ℕ, Bool, true, false, not, List, [], ◌∷◌, length, take, drop, pred, refl, sym, ap}
+use Rattle.kn_tunnel.specs.Kinds.{is_empty, is_refusal, is_reply, no_closes, no_head}
 use Rattle.kn_tunnel.specs.Tunnel.{Downward, Head, Inward, NoHead, Outward, Refusal, Reply, Upward}
 use Rattle.kn_words.specs.Down.{BytesDown, CloseDown, down_before, down_cons}
 use Rattle.kn_words.specs.In.{BytesIn, CancelIn, CloseIn, RequestIn, in_before, in_cons}
