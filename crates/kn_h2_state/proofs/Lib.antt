@@ -1,0 +1,13 @@
+pub mod RunLemmas
+pub mod PlaceLemmas
+pub mod FrameLemmas
+pub mod OutLemmas
+pub mod SettingFacts
+pub mod VerdictFacts
+pub mod PieceLaws
+pub mod SeenLemmas
+pub mod OtherLaws
+pub mod TextLaws
+pub mod WireLaws
+pub mod ReplyLaws
+pub mod TellLaws
