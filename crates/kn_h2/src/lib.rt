@@ -1,0 +1,38 @@
+// A connection of HTTP/2 (RFC 9113) without sockets: bytes and calls in, events and bytes out.
+#![tactic(auto)]
+
+mod answers;
+mod conn;
+mod conn_sending;
+mod ends;
+mod feeding;
+mod fill;
+mod finding;
+mod frames;
+mod grants;
+mod head_frames;
+mod head_tests;
+mod header_blocks;
+mod heads;
+mod laws;
+mod moves;
+mod openings;
+mod replies;
+mod requests;
+mod resets;
+mod responses;
+mod ruin;
+mod sending;
+mod shifts;
+mod status;
+mod stream_calls;
+mod taking;
+mod steady;
+mod text;
+mod windows;
+
+pub use conn::Conn;
+pub use kn_h2_state::{BeginRefusal, H2Event, QueueRefusal, Role};
+pub use laws::frames_keep;
+pub use sending::sending_laws;
+pub use steady::{ends_are_written, moves_tell_nothing, role_stays};
