@@ -1,26 +1,26 @@
 -- What words ask for, by how many there are.
-use Rattle.std.proofs.Common.{◌≡◌, ℕ, ◌+◌, ◌<◌, ◌≤◌, List, [], ◌∷◌, length, get_or, arith, refl, suc, subst, ap, sym, ◌∙◌, Bor}
+use Rattle.std.proofs.Common.{◌≡◌, ℕ, ◌<◌, ◌≤◌, List, [], ◌∷◌, length, get_or, arith, refl, suc, ap, sym, ◌∙◌, Bor}
 use Rattle.std.specs.Prelude.{map, ◌⊎◌}
 use Rattle.std.proofs.Common.{inl, inr}
 use Rattle.kn_cmd.specs.declared.command.Command.{Command}
 use Rattle.kn_cmd.specs.declared.command.Command.TheVariants.{Replay, Show, Frames, Route}
 use Rattle.kn_cmd.specs.declared.question.Question.{Question}
 use Rattle.kn_cmd.specs.Question.{IsQuestion}
-use Rattle.kn_cmd.specs.Command.{Asks, AsksRoute}
+use Rattle.kn_cmd.specs.Command.{Asks}
 
 same_question : (b c d l m n : List ℕ) (q : Question) → l ≡ b → m ≡ c → n ≡ d → IsQuestion l m n q → IsQuestion b c d q
 same_question b c d l m n q e f g h = record { strategies = rw (← e) h.strategies; host = rw (← f) h.host; number = rw (← g) h.number }
 
 -- four words ask for nothing where the last three are no question
 pub no_route : (a b c d : List ℕ) → ((q : Question) → IsQuestion b c d q → ⊥) → (command : Command) → Asks (a ∷ b ∷ c ∷ d ∷ []) command → ⊥
-no_route a b c d none Replay asks = cc
+no_route a b c d none (Replay strategies) asks = let e = asks.words in cc
 no_route a b c d none Show asks = cc
 no_route a b c d none Frames asks = cc
 no_route a b c d none (Route q) asks = let e = asks.words in none q (same_question b c d asks.list asks.address asks.dial q (cc) (cc) (cc) asks.reads)
 
 -- a command has one word, two or four
 pub asked_length : (words : List (List ℕ)) (command : Command) → Asks words command → (length words ≡ 1) ⊎ ((length words ≡ 2) ⊎ (length words ≡ 4))
-asked_length words Replay asks = inr (inl (ap length asks))
+asked_length words (Replay strategies) asks = inr (inl (ap length asks.words))
 asked_length words Show asks = inl (ap length asks)
 asked_length words Frames asks = inl (ap length asks)
 asked_length words (Route q) asks = inr (inr (ap length asks.words))

@@ -1,5 +1,5 @@
 -- What came of reading a source to its end.
-use Rattle.std.specs.Prelude.{◌≡◌, ℕ, ◌<◌, ◌≤◌, List, length, ⊤, Option}
+use Rattle.std.specs.Prelude.{ℕ, ◌<◌, ◌≤◌, List, length, ⊤, Option}
 use Rattle.std.specs.Io.KnownBytes.{Consumes, IsAtEnd}
 use Rattle.kn_io.specs.Faults.{Rose}
 use Rattle.kn_cmd.specs.declared.input.Input.{Input}

@@ -10,12 +10,14 @@ use Rattle.kn_frames.specs.declared.listing.ListingFault.{ListingFault}
 use Rattle.kn_frames.specs.Listings.{listing, reason_text}
 use Rattle.kn_route.specs.LinkLists.{LinkList}
 use Rattle.kn_route.specs.declared.link.Link.{Link}
+use Rattle.kn_route.specs.declared.strategy.Strategy.{Strategy}
 use Rattle.kn_route.specs.Choice.{pick}
 use Rattle.kn_route.specs.Listing.{links_in, printed_choice}
 use Rattle.kn_world.specs.declared.event.WorldEvent.{WorldEvent}
-use Rattle.kn_world.specs.Refusals.{RefusalsExplained}
-use Rattle.kn_world.specs.Shown.{Apart, Chosen, Delivered}
-use Rattle.kn_world.specs.Steps.{start, after_all, idle_count, shown}
+use Rattle.kn_world.specs.declared.state.State.{State}
+use Rattle.kn_world.specs.Events.{Runs}
+use Rattle.kn_world.specs.States.{start}
+use Rattle.kn_world.specs.Views.{shown}
 use Rattle.kn_script.specs.Lines.{lines_of}
 use Rattle.kn_script.specs.Script.{script_of}
 use Rattle.kn_script.specs.Texts.{text_of_reason}
@@ -32,15 +34,13 @@ use Rattle.kn_cmd.specs.declared.outcome.Outcome.TheVariants.{Output, Refused, T
 abbrev pub line_limit : ℕ
 line_limit = 10000
 
--- The text is the report of the world after these events, in order. In this world the bytes delivered either
--- way are a front of those that the tunnel's own peer sent, all of them where it is quiet; each dial went to the
--- one agent's link, and was refused only where there was none.
-pub record ReportsRun (events : List WorldEvent) (text : List ℕ) : Type 0 where
-  pub report : text ≡ report_of (shown (after_all events start)) (idle_count events start)
-  pub apart : Apart (shown (after_all events start))
-  pub delivered : Delivered (shown (after_all events start))
-  pub chosen : Chosen (shown (after_all events start))
-  pub explained : RefusalsExplained (shown (after_all events start))
+-- The text is the report of a world that these events reach, one after another, from the one in which nothing
+-- has happened and dials go by these strategies.
+pub record ReportsRun (strategies : List Strategy) (events : List WorldEvent) (text : List ℕ) : Type 0 where
+  pub world : State
+  pub idle : ℕ
+  pub reached : Runs events (start strategies) idle world
+  pub report : text ≡ report_of (shown world) idle
 
 -- the line of the choice that a question asks for, among these links
 abbrev pub choice_line : Question → List Link → List ℕ
@@ -48,21 +48,21 @@ choice_line question links = printed_choice (pick question.strategies links ques
 
 -- the input has no more lines than a command reads
 abbrev pub HasFewLines : Command → List ℕ → Type 0
-HasFewLines Replay bytes = length (lines_of bytes) ≤ line_limit
+HasFewLines (Replay strategies) bytes = length (lines_of bytes) ≤ line_limit
 HasFewLines Show bytes = ⊤
 HasFewLines Frames bytes = ⊤
 HasFewLines (Route question) bytes = ⊤
 
 -- what a command writes for an input
 abbrev pub Answers : Command → List ℕ → List ℕ → Type 0
-Answers Replay bytes text = (events : List WorldEvent) × (script_of bytes ≡ Ok events) × ReportsRun events text
+Answers (Replay strategies) bytes text = (events : List WorldEvent) × (script_of bytes ≡ Ok events) × ReportsRun strategies events text
 Answers Show bytes text = (packet : Packet) × Reads bytes packet × (text ≡ line_of packet ++ 10 ∷ [])
 Answers Frames bytes text = listing bytes ≡ Ok text
 Answers (Route question) bytes text = (list : LinkList) × (links_in bytes ≡ Ok list) × (text ≡ choice_line question list.links)
 
 -- what a command tells of an input that breaks its grammar
 abbrev pub Refuses : Command → List ℕ → List ℕ → Type 0
-Refuses Replay bytes message = (fault : ScriptFault) × (script_of bytes ≡ Err fault) × (message ≡ line_message fault.line (text_of_reason fault.reason))
+Refuses (Replay strategies) bytes message = (fault : ScriptFault) × (script_of bytes ≡ Err fault) × (message ≡ line_message fault.line (text_of_reason fault.reason))
 Refuses Show bytes message = (fault : PacketFault) × HasFault bytes fault × (message ≡ offset_message fault.place (text_of fault.reason))
 Refuses Frames bytes message = (fault : ListingFault) × (listing bytes ≡ Err fault) × (message ≡ offset_message fault.offset (reason_text fault.reason))
 Refuses (Route question) bytes message = (number : ℕ) × (links_in bytes ≡ Err number) × (message ≡ line_message number (codes "bad identifiers"))

@@ -1,6 +1,5 @@
 -- How a plain command may end: for each status what was asked, what was read, and what was written where.
-use Rattle.std.specs.Prelude.{◌≡◌, ℕ, ◌⊎◌, ◌≤◌, ◌<◌, List, [], length, Option}
-use Rattle.std.specs.Io.KnownBytes.{Consumes}
+use Rattle.std.specs.Prelude.{◌≡◌, ℕ, ◌⊎◌, ◌≤◌, List, length, Option}
 use Rattle.kn_io.specs.Faults.{Rose}
 use Rattle.kn_io.specs.Writing.{WriteCounts, WritePuts}
 use Rattle.kn_io.specs.declared.sink.Put.{Put}

@@ -2,15 +2,17 @@ ghost use Rattle.std.specs.Prelude.{◌≡◌, ◌↔◌, [], ◌∷◌, IfOk, I
 ghost use Rattle.kn_cmd.specs.Command.{Asks};
 ghost use Rattle.kn_cmd.specs.declared.command.Command.{Command};
 
-use crate::question::{Question, read_question};
+use crate::question::{Question, read_question, read_strategies};
 use kn_io::NoMemory;
+use kn_route::Strategies;
 use std::alloc::Global;
 
 /// What the words of a plain command ask for.
 #[derive(Drop)]
 pub enum Command {
-    /// `replay default`: a script is applied to a world, which is reported.
-    Replay,
+    /// `replay LIST`: a script is applied to a world whose server chooses agents by these strategies, and the
+    /// world is reported.
+    Replay(Strategies),
     /// `show`: a packet's bytes become its line.
     Show,
     /// `frames`: bytes of HTTP/2 become a line for each frame.
@@ -27,7 +29,7 @@ pub(crate) fn command_of(alloc: Global, words: &[&str]) -> Result<Option<Command
     match words {
         [] => Ok(None),
         [first] => Ok(command_of_one(first)),
-        [first, second] => Ok(command_of_two(first, second)),
+        [first, second] => command_of_two(alloc, first, second),
         [_, _, _] => Ok(None),
         [first, list, address, dial] => command_of_four(alloc, first, list, address, dial),
         [_, _, _, _, _, ..] => Ok(None),
@@ -47,14 +49,18 @@ fn command_of_one(first: &str) -> Option<Command>
     None
 }
 
-fn command_of_two(first: &str, second: &str) -> Option<Command>
-    ensures found { IfSome result (Asks (first.now ∷ second.now ∷ [])) }
-    ensures none { IfNone result ((command : Command) → ¬ Asks (first.now ∷ second.now ∷ []) command) }
+fn command_of_two(alloc: Global, first: &str, second: &str) -> Result<Option<Command>, NoMemory>
+    ensures found { IfOk result (λ found. IfSome found (Asks (first.now ∷ second.now ∷ []))) }
+    ensures none { IfOk result (λ found. IfNone found ((command : Command) → ¬ Asks (first.now ∷ second.now ∷ []) command)) }
 {
-    if is_word(first, "replay") && is_word(second, "default") {
-        return Some(Command::Replay);
+    if !is_word(first, "replay") {
+        return Ok(None);
     }
-    None
+    match read_strategies(alloc, second) {
+        Err(_) => Err(NoMemory),
+        Ok(None) => Ok(None),
+        Ok(Some(strategies)) => Ok(Some(Command::Replay(strategies))),
+    }
 }
 
 fn command_of_four(

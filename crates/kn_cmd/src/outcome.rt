@@ -26,14 +26,14 @@ pub(crate) enum Outcome {
 }
 
 /// What the command makes of the bytes.
-pub(crate) fn make_outcome(alloc: Global, command: &Command, bytes: &[u8]) -> Outcome
-    ensures { ComesOf command.now bytes.now result }
+pub(crate) fn make_outcome(alloc: Global, command: Command, bytes: &[u8]) -> Outcome
+    ensures { ComesOf command bytes.now result }
 {
     match command {
-        Command::Replay => replay(alloc, bytes),
+        Command::Replay(strategies) => replay(alloc, strategies, bytes),
         Command::Show => show(alloc, bytes),
         Command::Frames => list_frames(alloc, bytes),
-        Command::Route(question) => route(alloc, question, bytes),
+        Command::Route(question) => route(alloc, &question, bytes),
     }
 }
 

@@ -42,7 +42,7 @@ fn run<S: Source, K: Sink, E: Sink>(
         result }
 {
     match command_of(alloc, words) {
-        Ok(Some(command)) => run_command(alloc, &command, source, out, err),
+        Ok(Some(command)) => run_command(alloc, command, source, out, err),
         Ok(None) => fail(err, Status::Usage),
         Err(_) => fail(err, Status::NoMemory),
     }
@@ -50,12 +50,12 @@ fn run<S: Source, K: Sink, E: Sink>(
 
 fn run_command<S: Source, K: Sink, E: Sink>(
     alloc: Global,
-    command: &Command,
+    command: Command,
     source: &mut S,
     out: &mut K,
     err: &mut E,
 ) -> Status
-    ensures { CommandEnds command.now
+    ensures { CommandEnds command
         (streams (told (S.faults source.old) (S.left source.old)) (told (K.faults out.old) (K.written out.old)) (told (E.faults err.old) (E.written err.old)))
         (streams (told (S.faults source.new) (S.left source.new)) (told (K.faults out.new) (K.written out.new)) (told (E.faults err.new) (E.written err.new)))
         result }
@@ -114,5 +114,7 @@ fn tell<E: Sink>(err: &mut E, message: &[u8])
     let _ = err.write(message);
 }
 
+#[cfg(test)]
+mod races;
 #[cfg(test)]
 mod tests;

@@ -1,7 +1,8 @@
-ghost use Rattle.std.specs.Prelude.{◌≡◌, ℕ, ◌&&◌, nat_lt, nat_le, Some, None, if◌then◌else◌, IfOk, IfSome, IfNone};
+ghost use Rattle.std.specs.Prelude.{◌≡◌, ℕ, ◌&&◌, nat_lt, nat_le, List, Some, None, Ok, if◌then◌else◌, IfOk, IfSome, IfNone};
 ghost use Rattle.kn_cmd.specs.Question.{IsQuestion, IsDialNumber};
 ghost use Rattle.kn_cmd.specs.declared.question.Question.{Question};
 ghost use Rattle.kn_route.specs.Strategies.{strategies_in};
+ghost use Rattle.kn_route.specs.declared.strategy.Strategy.{Strategy};
 ghost use Rattle.kn_route.specs.Hosts.{host_in};
 
 use kn_io::{NoMemory, Text};
@@ -38,12 +39,24 @@ pub(crate) fn read_question(
         Ok(host) => host,
         Err(_) => return Ok(None),
     };
-    match Strategies::read(alloc, list) {
-        Ok(strategies) => Ok(Some(Question {
+    match read_strategies(alloc, list) {
+        Err(_) => Err(NoMemory),
+        Ok(None) => Ok(None),
+        Ok(Some(strategies)) => Ok(Some(Question {
             strategies,
             host: Text::of(alloc, host)?,
             dial,
         })),
+    }
+}
+
+/// The strategies of a list, or none where it is out of form.
+pub(crate) fn read_strategies(alloc: Global, list: &str) -> Result<Option<Strategies>, NoMemory>
+    ensures found { IfOk result (λ found. IfSome found (λ strategies. strategies_in list.now ≡ Ok strategies)) }
+    ensures none { IfOk result (λ found. IfNone found ((strategies : List Strategy) → ¬ (strategies_in list.now ≡ Ok strategies))) }
+{
+    match Strategies::read(alloc, list) {
+        Ok(strategies) => Ok(Some(strategies)),
         Err(StrategyFault::NoMemory) => Err(NoMemory),
         Err(StrategyFault::Empty) => Ok(None),
         Err(StrategyFault::Unknown { place: _ }) => Ok(None),

@@ -6,25 +6,23 @@ use crate::Command;
 use crate::messages::line_fault;
 use crate::outcome::{Outcome, refused, written};
 use kn_io::{Blob, NoMemory};
+use kn_route::Strategies;
 use kn_script::{ScriptError, line_count, read_script, reason_text, report};
-use kn_world::{
-    World, WorldEvent, bytes_stay_apart, dials_go_where_chosen, nothing_is_lost,
-    refusals_have_a_cause,
-};
+use kn_world::{World, WorldEvent};
 use std::alloc::Global;
 
 /// The most lines of a script.
 pub const LINE_LIMIT: usize = 10_000;
 
 /// What becomes of a script.
-pub(crate) fn replay(alloc: Global, bytes: &[u8]) -> Outcome
-    ensures { ComesOf Command.Replay bytes.now result }
+pub(crate) fn replay(alloc: Global, strategies: Strategies, bytes: &[u8]) -> Outcome
+    ensures { ComesOf (Command.Replay strategies) bytes.now result }
 {
     if line_count(bytes) > LINE_LIMIT {
         return Outcome::TooLong;
     }
     match read_script(alloc, bytes) {
-        Ok(events) => written(replayed(alloc, &events)),
+        Ok(events) => written(replayed(alloc, strategies, &events)),
         Err(ScriptError::NoMemory) => Outcome::NoMemory,
         Err(ScriptError::Fault(fault)) => refused(line_fault(
             alloc,
@@ -34,15 +32,11 @@ pub(crate) fn replay(alloc: Global, bytes: &[u8]) -> Outcome
     }
 }
 
-/// The report of a world after these events.
-fn replayed(alloc: Global, events: &[WorldEvent]) -> Result<Blob, NoMemory>
-    ensures { IfOk result (ReportsRun events.now) }
+/// The report of a world with these strategies after these events.
+fn replayed(alloc: Global, strategies: Strategies, events: &[WorldEvent]) -> Result<Blob, NoMemory>
+    ensures { IfOk result (ReportsRun strategies events.now) }
 {
-    bytes_stay_apart();
-    nothing_is_lost();
-    dials_go_where_chosen();
-    refusals_have_a_cause();
-    let mut world = World::new(alloc);
+    let mut world = World::new(alloc, strategies);
     let idle = world.run(alloc, events)?;
     report(alloc, &world, idle)
 }

@@ -1,6 +1,16 @@
 -- Pieces of text, one behind the other, and lines with their numbers.
 use Rattle.std.proofs.Common.{◌≡◌, ℕ, ◌+◌, ◌-◌, ◌<◌, zero, suc, List, [], ◌∷◌, ◌++◌, length, take, get_or, append_assoc, refl, sym, ap, ◌∙◌, arith}
+use Rattle.kn_world.specs.Shown.{AppShown, DialShown}
+use Rattle.kn_world.specs.declared.event.AppPhase.TheVariants as app
+use Rattle.kn_world.specs.declared.event.DialPhase.TheVariants as dial
 use Rattle.kn_script.specs.Report.{numbered}
+
+-- what stands past the end of a list
+abbrev pub no_app : AppShown
+no_app = record { phase = app.Ended; sent = []; got = []; error = [] }
+
+abbrev pub no_dial : DialShown
+no_dial = record { link = 0; app = 0; phase = dial.Ended; sent = []; got = [] }
 
 pub ruleset in_pieces = append_assoc
 

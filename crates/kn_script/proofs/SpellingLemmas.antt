@@ -9,16 +9,30 @@ use Rattle.std.proofs.lemmas.Fmt.{decimal_digit, decimal_nonempty, first_decimal
 use Rattle.std.proofs.lemmas.Str.Parse.{IsNumeralModel, numerals_by_fold}
 use Rattle.kn_world.specs.declared.event.WorldEvent.{WorldEvent}
 use Rattle.kn_world.specs.declared.event.WorldEvent.TheVariants as event
+use Rattle.kn_world.specs.declared.event.Pipe.TheVariants as pipe
 use Rattle.kn_script.specs.declared.fault.ScriptReason.{ScriptReason}
-use Rattle.kn_script.specs.declared.made.Made.{Made}
-use Rattle.kn_script.specs.declared.made.TheConstants.{MAX_DIAL, MAX_ROUNDS}
-use Rattle.kn_script.specs.Lines.{lines_of, pieces_of, is_line_feed, is_space}
-use Rattle.kn_script.specs.Words.{is_between, is_script_byte, is_digit, has_leading_zero, number_of, with_digit, hex_digit, hex_byte, bytes_of_hex}
-use Rattle.kn_script.specs.Report.{hex_glyph, hex_of}
 use Rattle.kn_script.specs.declared.fault.ScriptReason.TheVariants as reason
-use Rattle.kn_script.specs.Script.{if_ok, or_fault, between, is_remark, within_limits, with_rest, after_events, none_made, named, dial_number, round_count, hex_bytes, with_one, with_two, app_of, up_of, send_of, answer_of, pass_of, event_of_pieces, has_room, line_event, made_by, script_of, events_of}
+use Rattle.kn_script.specs.declared.made.Made.{Made}
+use Rattle.kn_script.specs.declared.made.Thing.{Thing}
+use Rattle.kn_script.specs.declared.made.Thing.TheVariants as thing
+use Rattle.kn_script.specs.declared.made.TheConstants.{MAX_DIAL, MAX_TAKE, MAX_ROUNDS}
+use Rattle.kn_script.specs.declared.verbs.Verb.{Verb}
+use Rattle.kn_script.specs.declared.verbs.Verb.TheVariants as verbs
+use Rattle.kn_script.specs.declared.verbs.OneWordVerb.{OneWordVerb}
+use Rattle.kn_script.specs.declared.verbs.OneWordVerb.TheVariants as one
+use Rattle.kn_script.specs.declared.verbs.TwoWordVerb.{TwoWordVerb}
+use Rattle.kn_script.specs.declared.verbs.TwoWordVerb.TheVariants as two
+use Rattle.kn_script.specs.declared.verbs.ThreeWordVerb.{ThreeWordVerb}
+use Rattle.kn_script.specs.declared.verbs.ThreeWordVerb.TheVariants as three
+use Rattle.kn_script.specs.declared.places.Direction.{Direction}
+use Rattle.kn_script.specs.declared.places.Direction.TheVariants as direction
+use Rattle.kn_script.specs.declared.places.Peer.TheVariants as peer
+use Rattle.kn_script.specs.Lines.{lines_of, pieces_of, is_line_feed, is_space}
+use Rattle.kn_script.specs.Words.{is_between, is_script_byte, verb_of, direction_of, is_digit, has_leading_zero, number_of, with_digit, hex_digit, hex_byte, bytes_of_hex}
+use Rattle.kn_script.specs.Report.{hex_glyph, hex_of}
+use Rattle.kn_script.specs.Script.{if_ok, or_fault, between, is_remark, within_limits, with_rest, after_events, none_made, named, limited, dial_number, hex_bytes, with_one, with_two, with_three, with_dial, with_named, with_bytes, with_count, with_fixed, agent_of, send_of, answer_of, take_app_of, take_dest_of, step_of, pass_of, pipe_of, one_word_event, two_word_event, three_word_event, event_of, event_of_pieces, thing_of, with_thing, has_room_for, has_room, line_event, made_by, script_of, events_of}
 use Rattle.kn_script.specs.Answers.{IsWithin}
-use Rattle.kn_script.specs.Spelling.{words_of, spelled, is_word_byte, is_byte, IsBytes, IsName, CanBeNamed, CanBeSpelled}
+use Rattle.kn_script.specs.Spelling.{words_of, spelled, is_word_byte, is_byte, IsWord, IsBytes, IsIdentifiers, IsIn, IsName, IsDial, CanBeNamed, CanBeSpelled}
 
 -- ---- tests
 
@@ -181,7 +195,7 @@ hex_is_word (byte ∷ bytes) h =
     from_both (is_word_byte (hex_glyph (byte / 16))) _ (glyph_is_word (byte / 16) (high_small byte both.0))
     (from_both (is_word_byte (hex_glyph (byte % 16))) (list_all is_word_byte (hex_of bytes)) (glyph_is_word (byte % 16) (low_small byte)) (hex_is_word bytes both.1))
 
--- ---- what words mean
+-- ---- words with a meaning
 
 with_one-word : (next : List ℕ → Result WorldEvent ScriptReason) (word : List ℕ) → 0 < length word → with_one next (word ∷ []) ≡ next word
 with_one-word next word some = rw (some_is_not_none (length word) some) refl
@@ -189,20 +203,34 @@ with_one-word next word some = rw (some_is_not_none (length word) some) refl
 with_two-words : (next : List ℕ → List ℕ → Result WorldEvent ScriptReason) (first second : List ℕ) → 0 < length first → 0 < length second → with_two next (first ∷ second ∷ []) ≡ next first second
 with_two-words next first second h k = rw (some_is_not_none (length first) h, some_is_not_none (length second) k) refl
 
+with_three-words : (next : List ℕ → List ℕ → List ℕ → Result WorldEvent ScriptReason) (first second third : List ℕ) → 0 < length first → 0 < length second → 0 < length third → with_three next (first ∷ second ∷ third ∷ []) ≡ next first second third
+with_three-words next first second third h k l =
+    rw (some_is_not_none (length first) h, some_is_not_none (length second) k, some_is_not_none (length third) l) refl
+
+number_word : (n : ℕ) → n < 2 ^ 64 → IsWord (decimal n)
+number_word n small = record { some = decimal_nonempty n small; printable = decimal_is_word n small }
+
 named-decimal : (made n : ℕ) → IsName made n → n < 2 ^ 64 → named made (decimal n) ≡ Ok n
 named-decimal made n is small =
     ap (λ found. if_ok (between reason.Name 1 made) (or_fault reason.Number found)) (number_of-decimal n small)
     ∙ rw (in_between 1 made n is.first is.last) refl
 
-dial_number-decimal : (n : ℕ) → n ≤ MAX_DIAL → dial_number (decimal n) ≡ Ok n
-dial_number-decimal n last =
-    ap (λ found. if_ok (between reason.Limit 0 MAX_DIAL) (or_fault reason.Number found)) (number_of-decimal n (omega arith))
-    ∙ rw (in_between 0 MAX_DIAL n (omega arith) last) refl
+limited-decimal : (low high n : ℕ) → IsIn low high n → n < 2 ^ 64 → limited low high (decimal n) ≡ Ok n
+limited-decimal low high n is small =
+    ap (λ found. if_ok (between reason.Limit low high) (or_fault reason.Number found)) (number_of-decimal n small)
+    ∙ rw (in_between low high n is.first is.last) refl
 
-round_count-decimal : (n : ℕ) → 1 ≤ n → n ≤ MAX_ROUNDS → round_count (decimal n) ≡ Ok n
-round_count-decimal n first last =
-    ap (λ found. if_ok (between reason.Limit 1 MAX_ROUNDS) (or_fault reason.Number found)) (number_of-decimal n (omega arith))
-    ∙ rw (in_between 1 MAX_ROUNDS n first last) refl
+dial_small : (n : ℕ) → IsDial n → n < 2 ^ 64
+dial_small n last = omega arith
+
+dial_number-decimal : (n : ℕ) → IsDial n → dial_number (decimal n) ≡ Ok n
+dial_number-decimal n last = limited-decimal 0 MAX_DIAL n (record { first = omega arith; last = last }) (dial_small n last)
+
+count_small : (n : ℕ) → IsIn 1 MAX_TAKE n → n < 2 ^ 64
+count_small n is = let last = is.last in omega arith
+
+rounds_small : (n : ℕ) → IsIn 1 MAX_ROUNDS n → n < 2 ^ 64
+rounds_small n is = let last = is.last in omega arith
 
 hex_bytes-hex_of : (bytes : List ℕ) → IsBytes bytes → hex_bytes (hex_of bytes) ≡ Ok bytes
 hex_bytes-hex_of [] is = absurd (let some = is.some in omega arith)
@@ -211,6 +239,65 @@ hex_bytes-hex_of (byte ∷ bytes) is = ap (or_fault reason.Hex) (bytes_of_hex-he
 hex_nonempty : (bytes : List ℕ) → 0 < length bytes → 0 < length (hex_of bytes)
 hex_nonempty [] some = some
 hex_nonempty (byte ∷ bytes) some = omega arith
+
+hex_word : (bytes : List ℕ) → IsBytes bytes → IsWord (hex_of bytes)
+hex_word bytes is = record { some = hex_nonempty bytes is.some; printable = hex_is_word bytes is.all }
+
+agent_small : (made : Made) (n : ℕ) → IsWithin made → IsName made.agents n → n < 2 ^ 64
+agent_small made n bound is = let most = bound.agents in let last = is.last in omega arith
+
+client_small : (made : Made) (n : ℕ) → IsWithin made → IsName made.clients n → n < 2 ^ 64
+client_small made n bound is = let most = bound.clients in let last = is.last in omega arith
+
+app_small : (made : Made) (n : ℕ) → IsWithin made → IsName made.apps n → n < 2 ^ 64
+app_small made n bound is = let most = bound.apps in let last = is.last in omega arith
+
+-- ---- events of words
+
+dial_found : (event : ℕ → WorldEvent) (n : ℕ) → IsDial n → with_dial event (decimal n) ≡ Ok (event n)
+dial_found event n last = ap (if_ok (λ dial. Ok (event dial))) (dial_number-decimal n last)
+
+name_found : (event : ℕ → WorldEvent) (made n : ℕ) → IsName made n → n < 2 ^ 64 → with_named event made (decimal n) ≡ Ok (event n)
+name_found event made n is small = ap (if_ok (λ number. Ok (event number))) (named-decimal made n is small)
+
+bytes_found : (event : List ℕ → WorldEvent) (bytes : List ℕ) → IsBytes bytes → with_bytes event (hex_of bytes) ≡ Ok (event bytes)
+bytes_found event bytes is = ap (if_ok (λ found. Ok (event found))) (hex_bytes-hex_of bytes is)
+
+count_found : (event : ℕ → WorldEvent) (n : ℕ) → IsIn 1 MAX_TAKE n → with_count event (decimal n) ≡ Ok (event n)
+count_found event n is = ap (if_ok (λ count. Ok (event count))) (limited-decimal 1 MAX_TAKE n is (count_small n is))
+
+send_found : (made : Made) (app : ℕ) (bytes : List ℕ) → IsName made.apps app → app < 2 ^ 64 → IsBytes bytes → send_of made (decimal app) (hex_of bytes) ≡ Ok (event.Send app bytes)
+send_found made app bytes is small spelled =
+    ap (if_ok (λ number. with_bytes (event.Send number) (hex_of bytes))) (named-decimal made.apps app is small)
+    ∙ bytes_found (event.Send app) bytes spelled
+
+answer_found : (dial : ℕ) (bytes : List ℕ) → IsDial dial → IsBytes bytes → answer_of (decimal dial) (hex_of bytes) ≡ Ok (event.Answer dial bytes)
+answer_found dial bytes last spelled =
+    ap (if_ok (λ number. with_bytes (event.Answer number) (hex_of bytes))) (dial_number-decimal dial last)
+    ∙ bytes_found (event.Answer dial) bytes spelled
+
+take_app_found : (made : Made) (app count : ℕ) → IsName made.apps app → app < 2 ^ 64 → IsIn 1 MAX_TAKE count → take_app_of made (decimal app) (decimal count) ≡ Ok (event.TakeApp app count)
+take_app_found made app count is small some =
+    ap (if_ok (λ number. with_count (event.TakeApp number) (decimal count))) (named-decimal made.apps app is small)
+    ∙ count_found (event.TakeApp app) count some
+
+take_dest_found : (dial count : ℕ) → IsDial dial → IsIn 1 MAX_TAKE count → take_dest_of (decimal dial) (decimal count) ≡ Ok (event.TakeDest dial count)
+take_dest_found dial count last some =
+    ap (if_ok (λ number. with_count (event.TakeDest number) (decimal count))) (dial_number-decimal dial last)
+    ∙ count_found (event.TakeDest dial) count some
+
+step_agent_found : (made : Made) (way : List ℕ) (direction : Direction) (n : ℕ) → direction_of way ≡ Some direction → IsName made.agents n → n < 2 ^ 64 → step_of made (decimal n) way peer.Agent ≡ Ok (event.Step (pipe_of peer.Agent direction n))
+step_agent_found made way direction n is_way is small =
+    ap (if_ok (λ number. with_fixed (λ found. Ok (event.Step (pipe_of peer.Agent found number))) (direction_of way))) (named-decimal made.agents n is small)
+    ∙ ap (with_fixed (λ found. Ok (event.Step (pipe_of peer.Agent found n)))) is_way
+
+step_client_found : (made : Made) (way : List ℕ) (direction : Direction) (n : ℕ) → direction_of way ≡ Some direction → IsName made.clients n → n < 2 ^ 64 → step_of made (decimal n) way peer.Client ≡ Ok (event.Step (pipe_of peer.Client direction n))
+step_client_found made way direction n is_way is small =
+    ap (if_ok (λ number. with_fixed (λ found. Ok (event.Step (pipe_of peer.Client found number))) (direction_of way))) (named-decimal made.clients n is small)
+    ∙ ap (with_fixed (λ found. Ok (event.Step (pipe_of peer.Client found n)))) is_way
+
+agent_found : (word : List ℕ) → IsIdentifiers word → agent_of word ≡ Ok (event.Agent word)
+agent_found word is = rw (is.no_dash, is.readable) refl
 
 -- ---- a line
 
@@ -232,66 +319,165 @@ words_read made event word words printable no_remark is =
           ∙ ap (if_ok (λ found. Ok (Some found))) is);
     }
 
+-- what a verb has to be
+record IsVerb (word : List ℕ) (verb : Verb) : Type 0 where
+  printable : list_all is_word_byte word ≡ true
+  named : verb_of word ≡ Some verb
+
+-- the words of a line after the verb are words
+all_printable : (words : List (List ℕ)) (word : List ℕ) → list_all is_word_byte word ≡ true → list_all (list_all is_word_byte) words ≡ true → list_all (list_all is_word_byte) (word ∷ words) ≡ true
+all_printable words word h k = from_both (list_all is_word_byte word) (list_all (list_all is_word_byte) words) h k
+
+found_event : (made : Made) (event : WorldEvent) (verb : Verb) (word : List ℕ) (words : List (List ℕ)) → verb_of word ≡ Some verb → event_of made verb words ≡ Ok event → has_room made event ≡ true → event_of_pieces made (word ∷ words) ≡ Ok event
+found_event made event verb word words is reads room =
+    ap (λ found. if_ok (λ v. if_ok (within_limits made) (event_of made v words)) (or_fault reason.Word found)) is
+    ∙ ap (if_ok (within_limits made)) reads
+    ∙ within made event room
+
+one_reads : (made : Made) (event : WorldEvent) (word first : List ℕ) (verb : OneWordVerb) → IsVerb word (verbs.OneWord verb) → is_remark (join_with_byte 32 (word ∷ first ∷ [])) ≡ false → IsWord first → one_word_event made verb first ≡ Ok event → has_room made event ≡ true → Reads made event (join_with_byte 32 (word ∷ first ∷ []))
+one_reads made event word first verb is no_remark one reads room =
+    words_read made event word (first ∷ []) (all_printable (first ∷ []) word is.printable (all_printable [] first one.printable refl)) no_remark
+    (found_event made event (verbs.OneWord verb) word (first ∷ []) is.named (with_one-word (one_word_event made verb) first one.some ∙ reads) room)
+
+two_read : (made : Made) (event : WorldEvent) (word first second : List ℕ) (verb : TwoWordVerb) → IsVerb word (verbs.TwoWord verb) → is_remark (join_with_byte 32 (word ∷ first ∷ second ∷ [])) ≡ false → IsWord first → IsWord second → two_word_event made verb first second ≡ Ok event → has_room made event ≡ true → Reads made event (join_with_byte 32 (word ∷ first ∷ second ∷ []))
+two_read made event word first second verb is no_remark one two reads room =
+    words_read made event word (first ∷ second ∷ [])
+    (all_printable (first ∷ second ∷ []) word is.printable (all_printable (second ∷ []) first one.printable (all_printable [] second two.printable refl))) no_remark
+    (found_event made event (verbs.TwoWord verb) word (first ∷ second ∷ []) is.named
+    (with_two-words (two_word_event made verb) first second one.some two.some ∙ reads) room)
+
+three_read : (made : Made) (event : WorldEvent) (word first second third : List ℕ) (verb : ThreeWordVerb) → IsVerb word (verbs.ThreeWord verb) → is_remark (join_with_byte 32 (word ∷ first ∷ second ∷ third ∷ [])) ≡ false → IsWord first → IsWord second → IsWord third → three_word_event made verb first second third ≡ Ok event → has_room made event ≡ true → Reads made event (join_with_byte 32 (word ∷ first ∷ second ∷ third ∷ []))
+three_read made event word first second third verb is no_remark one two three reads room =
+    words_read made event word (first ∷ second ∷ third ∷ [])
+    (all_printable (first ∷ second ∷ third ∷ []) word is.printable
+    (all_printable (second ∷ third ∷ []) first one.printable (all_printable (third ∷ []) second two.printable (all_printable [] third three.printable refl)))) no_remark
+    (found_event made event (verbs.ThreeWord verb) word (first ∷ second ∷ third ∷ []) is.named
+    (with_three-words (three_word_event made verb) first second third one.some two.some three.some ∙ reads) room)
+
+-- a fixed word
+fixed : (word : List ℕ) → 0 < length word → list_all is_word_byte word ≡ true → IsWord word
+fixed word some printable = record { some = some; printable = printable }
+
+a_verb : (word : List ℕ) (verb : Verb) → list_all is_word_byte word ≡ true → verb_of word ≡ Some verb → IsVerb word verb
+a_verb word verb printable named = record { printable = printable; named = named }
+
+agent_reads : (made : Made) (identifiers : List ℕ) → IsIdentifiers identifiers → has_room made (event.Agent identifiers) ≡ true → Reads made (event.Agent identifiers) (join_with_byte 32 (words_of (event.Agent identifiers)))
+agent_reads made [] is room =
+    one_reads made (event.Agent []) (codes "agent") (codes "-") one.Agent (a_verb (codes "agent") (verbs.OneWord one.Agent) refl refl) refl (fixed (codes "-") (omega arith) refl) refl room
+agent_reads made (byte ∷ bytes) is room =
+    one_reads made (event.Agent (byte ∷ bytes)) (codes "agent") (byte ∷ bytes) one.Agent (a_verb (codes "agent") (verbs.OneWord one.Agent) refl refl) refl
+    (fixed (byte ∷ bytes) (omega arith) is.printable) (agent_found (byte ∷ bytes) is) room
+
 line_reads : (made : Made) (event : WorldEvent) → IsWithin made → has_room made event ≡ true → CanBeNamed made event → Reads made event (join_with_byte 32 (words_of event))
-line_reads made (event.Agent identifiers) bound room plain =
-    words_read made (event.Agent identifiers) (codes "agent") (codes "-" ∷ []) refl refl (rw plain (within made (event.Agent []) room))
+line_reads made (event.Agent identifiers) bound room plain = agent_reads made identifiers plain room
 line_reads made event.Client bound room plain =
     words_read made event.Client (codes "client") [] refl refl (within made event.Client room)
 line_reads made (event.App client address) bound room plain =
-    let fits : client < 2 ^ 64 = let last = plain.0.last in let most = bound.clients in omega arith in
-    let found : with_two (app_of made) (decimal client ∷ address ∷ []) ≡ Ok (event.App client address) =
-    with_two-words (app_of made) (decimal client) address (decimal_nonempty client fits) plain.1.some
-    ∙ ap (if_ok (λ number. Ok (event.App number address))) (named-decimal made.clients client plain.0 fits) in
-    words_read made (event.App client address) (codes "app") (decimal client ∷ address ∷ [])
-    (rw (decimal_is_word client fits, plain.1.printable) refl) refl
-    (ap (if_ok (within_limits made)) found ∙ within made (event.App client address) room)
+    let small = client_small made client bound plain.0 in
+    two_read made (event.App client address) (codes "app") (decimal client) address two.App (a_verb (codes "app") (verbs.TwoWord two.App) refl refl) refl
+    (number_word client small) plain.1 (name_found (λ n. event.App n address) made.clients client plain.0 small) room
+line_reads made (event.Connect address) bound room plain =
+    one_reads made (event.Connect address) (codes "connect") address one.Connect (a_verb (codes "connect") (verbs.OneWord one.Connect) refl refl) refl plain refl room
+line_reads made (event.Raw bytes) bound room plain =
+    one_reads made (event.Raw bytes) (codes "raw") (hex_of bytes) one.Raw (a_verb (codes "raw") (verbs.OneWord one.Raw) refl refl) refl
+    (hex_word bytes plain) (bytes_found (λ found. event.Raw found) bytes plain) room
 line_reads made (event.Up dial) bound room plain =
-    let fits : dial < 2 ^ 64 = omega arith in
-    let found : with_one up_of (decimal dial ∷ []) ≡ Ok (event.Up dial) =
-    with_one-word up_of (decimal dial) (decimal_nonempty dial fits)
-    ∙ ap (if_ok (λ number. Ok (event.Up number))) (dial_number-decimal dial plain) in
-    words_read made (event.Up dial) (codes "up") (decimal dial ∷ [])
-    (rw (decimal_is_word dial fits) refl) refl
-    (ap (if_ok (within_limits made)) found ∙ within made (event.Up dial) room)
+    one_reads made (event.Up dial) (codes "up") (decimal dial) one.Up (a_verb (codes "up") (verbs.OneWord one.Up) refl refl) refl
+    (number_word dial (dial_small dial plain)) (dial_found (λ n. event.Up n) dial plain) room
+line_reads made (event.Refuse dial) bound room plain =
+    one_reads made (event.Refuse dial) (codes "refuse") (decimal dial) one.Refuse (a_verb (codes "refuse") (verbs.OneWord one.Refuse) refl refl) refl
+    (number_word dial (dial_small dial plain)) (dial_found (λ n. event.Refuse n) dial plain) room
 line_reads made (event.Send app bytes) bound room plain =
-    let fits : app < 2 ^ 64 = let last = plain.0.last in let most = bound.apps in omega arith in
-    let found : with_two (send_of made) (decimal app ∷ hex_of bytes ∷ []) ≡ Ok (event.Send app bytes) =
-    with_two-words (send_of made) (decimal app) (hex_of bytes) (decimal_nonempty app fits) (hex_nonempty bytes plain.1.some)
-    ∙ ap (if_ok (λ number. if_ok (λ bytes. Ok (event.Send number bytes)) (hex_bytes (hex_of bytes)))) (named-decimal made.apps app plain.0 fits)
-    ∙ ap (if_ok (λ bytes. Ok (event.Send app bytes))) (hex_bytes-hex_of bytes plain.1) in
-    words_read made (event.Send app bytes) (codes "send") (decimal app ∷ hex_of bytes ∷ [])
-    (rw (decimal_is_word app fits, hex_is_word bytes plain.1.all) refl) refl
-    (ap (if_ok (within_limits made)) found ∙ within made (event.Send app bytes) room)
+    let small = app_small made app bound plain.0 in
+    two_read made (event.Send app bytes) (codes "send") (decimal app) (hex_of bytes) two.Send (a_verb (codes "send") (verbs.TwoWord two.Send) refl refl) refl
+    (number_word app small) (hex_word bytes plain.1) (send_found made app bytes plain.0 small plain.1) room
 line_reads made (event.Answer dial bytes) bound room plain =
-    let last = plain.0 in
-    let fits : dial < 2 ^ 64 = omega arith in
-    let found : with_two answer_of (decimal dial ∷ hex_of bytes ∷ []) ≡ Ok (event.Answer dial bytes) =
-    with_two-words answer_of (decimal dial) (hex_of bytes) (decimal_nonempty dial fits) (hex_nonempty bytes plain.1.some)
-    ∙ ap (if_ok (λ number. if_ok (λ bytes. Ok (event.Answer number bytes)) (hex_bytes (hex_of bytes)))) (dial_number-decimal dial last)
-    ∙ ap (if_ok (λ bytes. Ok (event.Answer dial bytes))) (hex_bytes-hex_of bytes plain.1) in
-    words_read made (event.Answer dial bytes) (codes "answer") (decimal dial ∷ hex_of bytes ∷ [])
-    (rw (decimal_is_word dial fits, hex_is_word bytes plain.1.all) refl) refl
-    (ap (if_ok (within_limits made)) found ∙ within made (event.Answer dial bytes) room)
+    two_read made (event.Answer dial bytes) (codes "answer") (decimal dial) (hex_of bytes) two.Answer (a_verb (codes "answer") (verbs.TwoWord two.Answer) refl refl) refl
+    (number_word dial (dial_small dial plain.0)) (hex_word bytes plain.1) (answer_found dial bytes plain.0 plain.1) room
+line_reads made (event.End app) bound room plain =
+    let small = app_small made app bound plain in
+    one_reads made (event.End app) (codes "end") (decimal app) one.End (a_verb (codes "end") (verbs.OneWord one.End) refl refl) refl
+    (number_word app small) (name_found (λ n. event.End n) made.apps app plain small) room
+line_reads made (event.Hang dial) bound room plain =
+    one_reads made (event.Hang dial) (codes "hang") (decimal dial) one.Hang (a_verb (codes "hang") (verbs.OneWord one.Hang) refl refl) refl
+    (number_word dial (dial_small dial plain)) (dial_found (λ n. event.Hang n) dial plain) room
+line_reads made (event.Fail dial) bound room plain =
+    one_reads made (event.Fail dial) (codes "fail") (decimal dial) one.Fail (a_verb (codes "fail") (verbs.OneWord one.Fail) refl refl) refl
+    (number_word dial (dial_small dial plain)) (dial_found (λ n. event.Fail n) dial plain) room
+line_reads made (event.Drain agent) bound room plain =
+    let small = agent_small made agent bound plain in
+    one_reads made (event.Drain agent) (codes "drain") (decimal agent) one.Drain (a_verb (codes "drain") (verbs.OneWord one.Drain) refl refl) refl
+    (number_word agent small) (name_found (λ n. event.Drain n) made.agents agent plain small) room
+line_reads made (event.HoldDest dial) bound room plain =
+    two_read made (event.HoldDest dial) (codes "hold") (codes "dest") (decimal dial) two.Hold (a_verb (codes "hold") (verbs.TwoWord two.Hold) refl refl) refl
+    (fixed (codes "dest") (omega arith) refl) (number_word dial (dial_small dial plain)) (dial_found (λ n. event.HoldDest n) dial plain) room
+line_reads made (event.HoldApp app) bound room plain =
+    let small = app_small made app bound plain in
+    two_read made (event.HoldApp app) (codes "hold") (codes "app") (decimal app) two.Hold (a_verb (codes "hold") (verbs.TwoWord two.Hold) refl refl) refl
+    (fixed (codes "app") (omega arith) refl) (number_word app small) (name_found (λ n. event.HoldApp n) made.apps app plain small) room
+line_reads made (event.TakeDest dial count) bound room plain =
+    three_read made (event.TakeDest dial count) (codes "take") (codes "dest") (decimal dial) (decimal count) three.Take (a_verb (codes "take") (verbs.ThreeWord three.Take) refl refl) refl
+    (fixed (codes "dest") (omega arith) refl) (number_word dial (dial_small dial plain.0)) (number_word count (count_small count plain.1)) (take_dest_found dial count plain.0 plain.1) room
+line_reads made (event.TakeApp app count) bound room plain =
+    let small = app_small made app bound plain.0 in
+    three_read made (event.TakeApp app count) (codes "take") (codes "app") (decimal app) (decimal count) three.Take (a_verb (codes "take") (verbs.ThreeWord three.Take) refl refl) refl
+    (fixed (codes "app") (omega arith) refl) (number_word app small) (number_word count (count_small count plain.1)) (take_app_found made app count plain.0 small plain.1) room
+line_reads made (event.GoDest dial) bound room plain =
+    two_read made (event.GoDest dial) (codes "go") (codes "dest") (decimal dial) two.Go (a_verb (codes "go") (verbs.TwoWord two.Go) refl refl) refl
+    (fixed (codes "dest") (omega arith) refl) (number_word dial (dial_small dial plain)) (dial_found (λ n. event.GoDest n) dial plain) room
+line_reads made (event.GoApp app) bound room plain =
+    let small = app_small made app bound plain in
+    two_read made (event.GoApp app) (codes "go") (codes "app") (decimal app) two.Go (a_verb (codes "go") (verbs.TwoWord two.Go) refl refl) refl
+    (fixed (codes "app") (omega arith) refl) (number_word app small) (name_found (λ n. event.GoApp n) made.apps app plain small) room
+line_reads made (event.LoseServer agent) bound room plain =
+    let small = agent_small made agent bound plain in
+    two_read made (event.LoseServer agent) (codes "lose") (codes "server") (decimal agent) two.Lose (a_verb (codes "lose") (verbs.TwoWord two.Lose) refl refl) refl
+    (fixed (codes "server") (omega arith) refl) (number_word agent small) (name_found (λ n. event.LoseServer n) made.agents agent plain small) room
+line_reads made (event.LoseAgent agent) bound room plain =
+    let small = agent_small made agent bound plain in
+    two_read made (event.LoseAgent agent) (codes "lose") (codes "agent") (decimal agent) two.Lose (a_verb (codes "lose") (verbs.TwoWord two.Lose) refl refl) refl
+    (fixed (codes "agent") (omega arith) refl) (number_word agent small) (name_found (λ n. event.LoseAgent n) made.agents agent plain small) room
+line_reads made (event.LoseFront client) bound room plain =
+    let small = client_small made client bound plain in
+    two_read made (event.LoseFront client) (codes "lose") (codes "front") (decimal client) two.Lose (a_verb (codes "lose") (verbs.TwoWord two.Lose) refl refl) refl
+    (fixed (codes "front") (omega arith) refl) (number_word client small) (name_found (λ n. event.LoseFront n) made.clients client plain small) room
+line_reads made (event.LoseClient client) bound room plain =
+    let small = client_small made client bound plain in
+    two_read made (event.LoseClient client) (codes "lose") (codes "client") (decimal client) two.Lose (a_verb (codes "lose") (verbs.TwoWord two.Lose) refl refl) refl
+    (fixed (codes "client") (omega arith) refl) (number_word client small) (name_found (λ n. event.LoseClient n) made.clients client plain small) room
+line_reads made (event.Step (pipe.AgentUp agent)) bound room plain =
+    let small = agent_small made agent bound plain in
+    three_read made (event.Step (pipe.AgentUp agent)) (codes "step") (codes "agent") (decimal agent) (codes "up") three.Step (a_verb (codes "step") (verbs.ThreeWord three.Step) refl refl) refl
+    (fixed (codes "agent") (omega arith) refl) (number_word agent small) (fixed (codes "up") (omega arith) refl) (step_agent_found made (codes "up") direction.Up agent refl plain small) room
+line_reads made (event.Step (pipe.AgentDown agent)) bound room plain =
+    let small = agent_small made agent bound plain in
+    three_read made (event.Step (pipe.AgentDown agent)) (codes "step") (codes "agent") (decimal agent) (codes "down") three.Step (a_verb (codes "step") (verbs.ThreeWord three.Step) refl refl) refl
+    (fixed (codes "agent") (omega arith) refl) (number_word agent small) (fixed (codes "down") (omega arith) refl) (step_agent_found made (codes "down") direction.Down agent refl plain small) room
+line_reads made (event.Step (pipe.ClientUp client)) bound room plain =
+    let small = client_small made client bound plain in
+    three_read made (event.Step (pipe.ClientUp client)) (codes "step") (codes "client") (decimal client) (codes "up") three.Step (a_verb (codes "step") (verbs.ThreeWord three.Step) refl refl) refl
+    (fixed (codes "client") (omega arith) refl) (number_word client small) (fixed (codes "up") (omega arith) refl) (step_client_found made (codes "up") direction.Up client refl plain small) room
+line_reads made (event.Step (pipe.ClientDown client)) bound room plain =
+    let small = client_small made client bound plain in
+    three_read made (event.Step (pipe.ClientDown client)) (codes "step") (codes "client") (decimal client) (codes "down") three.Step (a_verb (codes "step") (verbs.ThreeWord three.Step) refl refl) refl
+    (fixed (codes "client") (omega arith) refl) (number_word client small) (fixed (codes "down") (omega arith) refl) (step_client_found made (codes "down") direction.Down client refl plain small) room
 line_reads made (event.Pass rounds) bound room plain =
-    let last = plain.1 in
-    let fits : rounds < 2 ^ 64 = omega arith in
-    let found : with_one pass_of (decimal rounds ∷ []) ≡ Ok (event.Pass rounds) =
-    with_one-word pass_of (decimal rounds) (decimal_nonempty rounds fits)
-    ∙ ap (if_ok (λ count. Ok (event.Pass count))) (round_count-decimal rounds plain.0 plain.1) in
-    words_read made (event.Pass rounds) (codes "pass") (decimal rounds ∷ [])
-    (rw (decimal_is_word rounds fits) refl) refl
-    (ap (if_ok (within_limits made)) found ∙ within made (event.Pass rounds) room)
+    let small = rounds_small rounds plain in
+    let word = number_word rounds small in
+    words_read made (event.Pass rounds) (codes "pass") (decimal rounds ∷ []) (all_printable (decimal rounds ∷ []) (codes "pass") refl (all_printable [] (decimal rounds) word.printable refl)) refl
+    (ap (if_ok (within_limits made)) (with_one-word pass_of (decimal rounds) word.some ∙ ap (if_ok (λ count. Ok (event.Pass count))) (limited-decimal 1 MAX_ROUNDS rounds plain small))
+    ∙ within made (event.Pass rounds) room)
 
 -- ---- all lines
 
+within_thing : (made : Made) (thing : Thing) → IsWithin made → has_room_for made thing ≡ true → IsWithin (with_thing thing made)
+within_thing made thing.Agent bound room = record { agents = grind (arith, nat_tests); clients = bound.clients; apps = bound.apps }
+within_thing made thing.Client bound room = record { agents = bound.agents; clients = grind (arith, nat_tests); apps = bound.apps }
+within_thing made thing.App bound room = record { agents = bound.agents; clients = bound.clients; apps = grind (arith, nat_tests) }
+within_thing made thing.Nothing bound room = bound
+
 within_next : (made : Made) (event : WorldEvent) → IsWithin made → has_room made event ≡ true → IsWithin (made_by event made)
-within_next made (event.Agent identifiers) bound room = record { agents = grind (arith, nat_tests); clients = bound.clients; apps = bound.apps }
-within_next made event.Client bound room = record { agents = bound.agents; clients = grind (arith, nat_tests); apps = bound.apps }
-within_next made (event.App client address) bound room = record { agents = bound.agents; clients = bound.clients; apps = grind (arith, nat_tests) }
-within_next made (event.Up dial) bound room = bound
-within_next made (event.Send app bytes) bound room = bound
-within_next made (event.Answer dial bytes) bound room = bound
-within_next made (event.Pass rounds) bound room = bound
+within_next made event bound room = within_thing made (thing_of event) bound room
 
 spelled_first : (event : WorldEvent) (events : List WorldEvent) → list_all is_script_byte (join_with_byte 32 (words_of event)) ≡ true → lines_of (spelled (event ∷ events)) ≡ join_with_byte 32 (words_of event) ∷ lines_of (spelled events)
 spelled_first event events script =

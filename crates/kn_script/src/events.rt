@@ -1,80 +1,27 @@
 ghost use Rattle.std.specs.Prelude.{◌≡◌, IfOk, true};
 ghost use Rattle.kn_script.specs.Lines.{pieces_of};
 ghost use Rattle.kn_script.specs.Pieces.{pieces_left};
-ghost use Rattle.kn_script.specs.Script.{agent_of, app_of, up_of, send_of, answer_of, pass_of, event_of, event_of_pieces, line_event, is_remark, within_limits, has_room};
+ghost use Rattle.kn_script.specs.Script.{one_word_event, two_word_event, three_word_event, with_one, with_two, with_three, pass_of, event_of, event_of_pieces, line_event, is_remark, within_limits, has_room};
+ghost use Rattle.kn_script.specs.declared.verbs.Verb.TheVariants as verb;
 ghost use Rattle.kn_script.specs.Answers.{may_add, IsWithin, LineGives};
 
 use crate::fault::{LineError, ScriptReason};
-use crate::hexadecimal::hex_bytes;
 use crate::made::{DEFAULT_ROUNDS, Made};
-use crate::numbers::{dial_number, named, round_count};
-use crate::words::{Verb, cut, no_word, one_word, text_of, two_words, verb_of};
-use kn_io::Text;
+use crate::more_words::{three_word_event, two_word_event};
+use crate::numbers::round_count;
+use crate::one_word::one_word_event;
+use crate::verbs::{OneWordVerb, ThreeWordVerb, TwoWordVerb, Verb, verb_of};
+use crate::words::{cut, no_word, one_word, text_of, three_words, two_words};
 use kn_world::WorldEvent;
 use std::alloc::Global;
 
-fn agent(alloc: Global, word: &str) -> Result<WorldEvent, LineError>
-    ensures { LineGives (agent_of word.now) result }
+fn client(made: Made, left: Option<&str>) -> Result<WorldEvent, LineError>
+    ensures { LineGives (event_of made verb.Client (pieces_left left.entry)) result }
 {
-    if word == "-" {
-        Ok(WorldEvent::Agent {
-            identifiers: Text::new(alloc),
-        })
+    if no_word(left) {
+        Ok(WorldEvent::Client)
     } else {
-        Err(LineError::Fault(ScriptReason::Word))
-    }
-}
-
-fn app(alloc: Global, made: Made, client: &str, address: &str) -> Result<WorldEvent, LineError>
-    requires { IsWithin made }
-    ensures { LineGives (app_of made client.now address.now) result }
-{
-    match named(made.clients, client) {
-        Err(reason) => Err(LineError::Fault(reason)),
-        Ok(client) => {
-            match Text::of(alloc, address) {
-                Err(_) => Err(LineError::NoMemory),
-                Ok(address) => Ok(WorldEvent::App { client, address }),
-            }
-        }
-    }
-}
-
-fn up(dial: &str) -> Result<WorldEvent, LineError>
-    ensures { LineGives (up_of dial.now) result }
-{
-    match dial_number(dial) {
-        Err(reason) => Err(LineError::Fault(reason)),
-        Ok(dial) => Ok(WorldEvent::Up { dial }),
-    }
-}
-
-fn send(alloc: Global, made: Made, app: &str, digits: &str) -> Result<WorldEvent, LineError>
-    requires { IsWithin made }
-    ensures { LineGives (send_of made app.now digits.now) result }
-{
-    match named(made.apps, app) {
-        Err(reason) => Err(LineError::Fault(reason)),
-        Ok(app) => {
-            match hex_bytes(alloc, digits) {
-                Err(error) => Err(error),
-                Ok(bytes) => Ok(WorldEvent::Send { app, bytes }),
-            }
-        }
-    }
-}
-
-fn answer(alloc: Global, dial: &str, digits: &str) -> Result<WorldEvent, LineError>
-    ensures { LineGives (answer_of dial.now digits.now) result }
-{
-    match dial_number(dial) {
-        Err(reason) => Err(LineError::Fault(reason)),
-        Ok(dial) => {
-            match hex_bytes(alloc, digits) {
-                Err(error) => Err(error),
-                Ok(bytes) => Ok(WorldEvent::Answer { dial, bytes }),
-            }
-        }
+        Err(LineError::Fault(ScriptReason::Count))
     }
 }
 
@@ -84,6 +31,61 @@ fn pass(word: &str) -> Result<WorldEvent, LineError>
     match round_count(word) {
         Err(reason) => Err(LineError::Fault(reason)),
         Ok(rounds) => Ok(WorldEvent::Pass { rounds }),
+    }
+}
+
+fn pass_words(made: Made, left: Option<&str>) -> Result<WorldEvent, LineError>
+    ensures { LineGives (event_of made verb.Pass (pieces_left left.entry)) result }
+{
+    if no_word(left) {
+        Ok(WorldEvent::Pass {
+            rounds: DEFAULT_ROUNDS,
+        })
+    } else {
+        match one_word(left) {
+            None => Err(LineError::Fault(ScriptReason::Count)),
+            Some(word) => pass(word),
+        }
+    }
+}
+
+fn with_one(
+    alloc: Global,
+    made: Made,
+    verb: OneWordVerb,
+    left: Option<&str>,
+) -> Result<WorldEvent, LineError>
+    requires { IsWithin made }
+    ensures { LineGives (with_one (one_word_event made verb) (pieces_left left.entry)) result }
+{
+    match one_word(left) {
+        None => Err(LineError::Fault(ScriptReason::Count)),
+        Some(word) => one_word_event(alloc, made, verb, word),
+    }
+}
+
+fn with_two(
+    alloc: Global,
+    made: Made,
+    verb: TwoWordVerb,
+    left: Option<&str>,
+) -> Result<WorldEvent, LineError>
+    requires { IsWithin made }
+    ensures { LineGives (with_two (two_word_event made verb) (pieces_left left.entry)) result }
+{
+    match two_words(left) {
+        None => Err(LineError::Fault(ScriptReason::Count)),
+        Some((first, second)) => two_word_event(alloc, made, verb, first, second),
+    }
+}
+
+fn with_three(made: Made, verb: ThreeWordVerb, left: Option<&str>) -> Result<WorldEvent, LineError>
+    requires { IsWithin made }
+    ensures { LineGives (with_three (three_word_event made verb) (pieces_left left.entry)) result }
+{
+    match three_words(left) {
+        None => Err(LineError::Fault(ScriptReason::Count)),
+        Some(words) => three_word_event(made, verb, words),
     }
 }
 
@@ -98,55 +100,11 @@ fn event_of(
     ensures { LineGives (event_of made verb (pieces_left left.entry)) result }
 {
     match verb {
-        Verb::Agent => {
-            match one_word(left) {
-                None => Err(LineError::Fault(ScriptReason::Count)),
-                Some(word) => agent(alloc, word),
-            }
-        }
-        Verb::Client => {
-            if no_word(left) {
-                Ok(WorldEvent::Client)
-            } else {
-                Err(LineError::Fault(ScriptReason::Count))
-            }
-        }
-        Verb::App => {
-            match two_words(left) {
-                None => Err(LineError::Fault(ScriptReason::Count)),
-                Some((client, address)) => app(alloc, made, client, address),
-            }
-        }
-        Verb::Up => {
-            match one_word(left) {
-                None => Err(LineError::Fault(ScriptReason::Count)),
-                Some(dial) => up(dial),
-            }
-        }
-        Verb::Send => {
-            match two_words(left) {
-                None => Err(LineError::Fault(ScriptReason::Count)),
-                Some((app, digits)) => send(alloc, made, app, digits),
-            }
-        }
-        Verb::Answer => {
-            match two_words(left) {
-                None => Err(LineError::Fault(ScriptReason::Count)),
-                Some((dial, digits)) => answer(alloc, dial, digits),
-            }
-        }
-        Verb::Pass => {
-            if no_word(left) {
-                Ok(WorldEvent::Pass {
-                    rounds: DEFAULT_ROUNDS,
-                })
-            } else {
-                match one_word(left) {
-                    None => Err(LineError::Fault(ScriptReason::Count)),
-                    Some(word) => pass(word),
-                }
-            }
-        }
+        Verb::Client => client(made, left),
+        Verb::Pass => pass_words(made, left),
+        Verb::OneWord(verb) => with_one(alloc, made, verb, left),
+        Verb::TwoWord(verb) => with_two(alloc, made, verb, left),
+        Verb::ThreeWord(verb) => with_three(made, verb, left),
     }
 }
 

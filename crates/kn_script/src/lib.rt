@@ -5,12 +5,17 @@
 mod events;
 mod fault;
 mod hexadecimal;
+mod identifiers;
 mod lines;
 mod made;
+mod more_words;
 mod numbers;
+mod one_word;
+mod places;
 mod reader;
 mod reporting;
 mod spelling;
+mod verbs;
 mod words;
 
 pub use fault::{ScriptError, ScriptFault, ScriptReason, reason_text};

@@ -2,10 +2,13 @@ ghost use Rattle.std.specs.Prelude.{◌≡◌, ◌-◌, ◌^◌, min, fold, ◌<
 ghost use Rattle.std.specs.List.{list_all};
 ghost use Rattle.std.specs.Option.{option_map};
 ghost use Rattle.kn_script.specs.Words.{is_digit, has_leading_zero, is_number, with_digit, number_of};
-ghost use Rattle.kn_script.specs.Script.{any_number, named, dial_number, round_count};
+ghost use Rattle.kn_script.specs.Answers.{IsWithin};
+ghost use Rattle.kn_script.specs.declared.made.TheConstants.{MAX_TAKE, MAX_ROUNDS};
+ghost use Rattle.kn_script.specs.Script.{any_number, named, limited, dial_number, peer_number};
 
 use crate::fault::ScriptReason;
-use crate::made::{MAX_DIAL, MAX_ROUNDS};
+use crate::made::{MAX_DIAL, MAX_ROUNDS, MAX_TAKE, Made};
+use crate::places::Peer;
 
 fn has_leading_zero(word: &[u8]) -> bool
     ensures { result ≡ has_leading_zero word.now }
@@ -72,14 +75,15 @@ pub fn named(made: usize, word: &str) -> Result<usize, ScriptReason>
     }
 }
 
-/// The number of a dial.
-pub fn dial_number(word: &str) -> Result<u64, ScriptReason>
-    ensures { result ≡ dial_number word.now }
+/// A number within a limit.
+fn limited(low: u64, high: u64, word: &str) -> Result<u64, ScriptReason>
+    requires { high < 2 ^ 64 - 1 }
+    ensures { result ≡ limited low high word.now }
 {
     match read_number(word) {
         None => Err(ScriptReason::Number),
         Some(n) => {
-            if n <= MAX_DIAL {
+            if low <= n && n <= high {
                 Ok(n)
             } else {
                 Err(ScriptReason::Limit)
@@ -88,18 +92,34 @@ pub fn dial_number(word: &str) -> Result<u64, ScriptReason>
     }
 }
 
+/// The number of a dial.
+pub fn dial_number(word: &str) -> Result<u64, ScriptReason>
+    ensures { result ≡ dial_number word.now }
+{
+    limited(0, MAX_DIAL, word)
+}
+
+/// How many bytes a side takes.
+pub fn taken_count(word: &str) -> Result<u64, ScriptReason>
+    ensures { result ≡ limited 1 MAX_TAKE word.now }
+{
+    limited(1, MAX_TAKE, word)
+}
+
 /// How many rounds a `pass` has.
 pub fn round_count(word: &str) -> Result<u64, ScriptReason>
-    ensures { result ≡ round_count word.now }
+    ensures { result ≡ limited 1 MAX_ROUNDS word.now }
 {
-    match read_number(word) {
-        None => Err(ScriptReason::Number),
-        Some(n) => {
-            if 1 <= n && n <= MAX_ROUNDS {
-                Ok(n)
-            } else {
-                Err(ScriptReason::Limit)
-            }
-        }
+    limited(1, MAX_ROUNDS, word)
+}
+
+/// The number of who has a connection to the server.
+pub fn peer_number(made: Made, peer: Peer, word: &str) -> Result<usize, ScriptReason>
+    requires { IsWithin made }
+    ensures { result ≡ peer_number made peer word.now }
+{
+    match peer {
+        Peer::Agent => named(made.agents, word),
+        Peer::Client => named(made.clients, word),
     }
 }

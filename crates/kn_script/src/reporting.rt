@@ -1,5 +1,5 @@
 ghost use Rattle.std.specs.Prelude.{◌≡◌, ◌++◌, ◌-◌, ◌≤◌, ◌<◌, length, take, slice_index_or, IfOk, OnOk};
-ghost use Rattle.kn_world.specs.Steps.{shown};
+ghost use Rattle.kn_world.specs.Views.{shown};
 ghost use Rattle.kn_world.specs.Shown.{AppShown, DialShown};
 ghost use Rattle.kn_script.specs.Report.{report_of, labelled, head_line, app_line, dial_line, numbered, tables_line, end_line, traffic, answer_text, app_phase_text, dial_phase_text, app_line_of, dial_line_of, front_text, error_text, hex_of, hex_glyph};
 
@@ -299,12 +299,14 @@ pub fn report(alloc: Global, world: &World, idle: u64) -> Result<Blob, NoMemory>
 #[cfg(test)]
 mod tests {
     use super::*;
+    use kn_route::Strategies;
     use std::process::Abort;
     use std::test::Fail;
 
     #[test]
     fn reports_an_empty_world(rt: HostRuntime) -> Result<(), Fail> {
-        let text = report(rt.alloc(), &World::new(rt.alloc()), 0)
+        let strategies = Strategies::read(rt.alloc(), "default")?;
+        let text = report(rt.alloc(), &World::new(rt.alloc(), strategies), 0)
             .ok()
             .ok_or("no memory")?;
         let expected =

@@ -2,7 +2,7 @@ ghost use Rattle.std.specs.Prelude.{◌≡◌, ◌==◌, length, true, false, Ma
 ghost use Rattle.std.specs.Option.{option_map, option_map_or, option_copied};
 ghost use Rattle.std.specs.List.{list_all};
 ghost use Rattle.kn_script.specs.Lines.{pieces_of};
-ghost use Rattle.kn_script.specs.Words.{is_script_byte, verb_of, no_word, one_word, with_first, two_words};
+ghost use Rattle.kn_script.specs.Words.{is_script_byte, no_word, one_word, with_first, two_words, before_two, three_words};
 ghost use Rattle.kn_script.specs.Pieces.{pieces_left};
 
 /// The text of a line, where all of its bytes may stand in a script.
@@ -22,41 +22,6 @@ fn are_script_bytes(line: &[u8]) -> bool
     ensures { result ≡ list_all is_script_byte line.now }
 {
     line.iter().all(|byte| b' ' <= *byte && *byte <= b'~')
-}
-
-/// The first words of the lines of a script.
-#[derive(Clone, Copy)]
-pub enum Verb {
-    Agent,
-    Client,
-    App,
-    Up,
-    Send,
-    Answer,
-    Pass,
-}
-
-/// The verb that a word is, if it is one.
-pub fn verb_of(word: &str) -> Option<Verb>
-    ensures { result ≡ verb_of word.now }
-{
-    if word == "agent" {
-        Some(Verb::Agent)
-    } else if word == "client" {
-        Some(Verb::Client)
-    } else if word == "app" {
-        Some(Verb::App)
-    } else if word == "up" {
-        Some(Verb::Up)
-    } else if word == "send" {
-        Some(Verb::Send)
-    } else if word == "answer" {
-        Some(Verb::Answer)
-    } else if word == "pass" {
-        Some(Verb::Pass)
-    } else {
-        None
-    }
 }
 
 /// What stands before the first space, and what stands after it where there is one.
@@ -128,6 +93,46 @@ fn with_first<'a>(first: &'a str, second: Option<&'a str>) -> Option<(&'a str, &
         match second {
             None => None,
             Some(second) => Some((first, second)),
+        }
+    }
+}
+
+/// Three words.
+#[derive(Clone, Copy)]
+pub struct Three<'a> {
+    pub first: &'a str,
+    pub second: &'a str,
+    pub third: &'a str,
+}
+
+/// The three words that are left, where they are three and not empty.
+pub fn three_words<'a>(left: Option<&'a str>) -> Option<Three<'a>>
+    ensures { option_map (λ words. (words.first.now, (words.second.now, words.third.now))) result ≡ three_words (pieces_left left.entry) }
+{
+    match left {
+        None => None,
+        Some(text) => {
+            let (first, after) = cut(text);
+            before_two(first, two_words(after))
+        }
+    }
+}
+
+/// Three words of which the first may be empty and the others missing.
+fn before_two<'a>(first: &'a str, others: Option<(&'a str, &'a str)>) -> Option<Three<'a>>
+    ensures { option_map (λ words. (words.first.now, (words.second.now, words.third.now))) result
+        ≡ before_two first.now (option_map (λ words. (words.0.now, words.1.now)) others.entry) }
+{
+    if first.is_empty() {
+        None
+    } else {
+        match others {
+            None => None,
+            Some((second, third)) => Some(Three {
+                first,
+                second,
+                third,
+            }),
         }
     }
 }

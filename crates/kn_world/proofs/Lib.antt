@@ -1,4 +1,7 @@
-pub mod Rounds
-pub mod Tunnel
-pub mod Flows
-pub mod Shows
+pub mod TimesLemmas
+pub mod RoundLemmas
+pub mod HearingLemmas
+pub mod ChoiceLemmas
+pub mod FlowLemmas
+pub mod RunLemmas
+pub mod OpenLemmas

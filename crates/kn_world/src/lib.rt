@@ -1,23 +1,39 @@
-// An agent, the server and a client in one process. Events of a script act on them, packets go from end to
-// end, and what each side sent and got can be read.
+// Agents, the server and clients in one process, with packets in flight between them. Events of a script act on
+// them, packets go from end to end, and what each side sent and got can be read.
 #![tactic(auto)]
 
-mod agent;
-mod client;
-mod delivery;
+mod agent_steps;
+mod agents;
+mod answering;
+mod app_steps;
+mod apps;
+mod arrivals;
+mod client_steps;
+mod clients;
+mod dials;
+mod doors;
 mod effects;
 mod event;
+mod flow;
 mod handing;
+mod hearing;
+mod idle;
 mod laws;
-mod messages;
+mod numbered;
+mod numbers;
 mod packets;
-mod server;
-mod stages;
+mod parts;
+mod pieces;
+mod pipes;
+mod server_packets;
+mod server_steps;
 mod state;
-#[cfg(test)]
-mod tests;
+mod views;
 mod world;
 
-pub use event::{AppPhase, DialPhase, Seen, WorldEvent};
-pub use laws::{bytes_stay_apart, dials_go_where_chosen, nothing_is_lost, refusals_have_a_cause};
+pub use event::{AppPhase, DialPhase, Pipe, Seen, WorldEvent};
+pub use laws::dials_go_where_picked;
 pub use world::{Tables, World};
+
+#[cfg(test)]
+mod tests;

@@ -1,5 +1,5 @@
-ghost use Rattle.std.specs.Prelude.{◌≡◌, ◌==◌, length, List, [], ◌∷◌, ◌++◌, MatchOption, OnOk, OnErr};
-ghost use Rattle.kn_packet.specs.declared.packet.Packet.{Packet};
+ghost use Rattle.std.specs.Prelude.{◌≡◌, ◌==◌, length, [], ◌∷◌, ◌++◌, OnOk, OnErr};
+ghost use Rattle.kn_world.specs.Numbers.{first_of, rest_of};
 
 use kn_io::NoMemory;
 use kn_packet::Packet;
@@ -32,6 +32,12 @@ impl Packets {
         }
     }
 
+    pub fn len(&self) -> usize
+        ensures { result ≡ length self.now }
+    {
+        self.inner.len()
+    }
+
     pub fn is_empty(&self) -> bool
         ensures { result ≡ (length self.now == 0) }
     {
@@ -49,7 +55,8 @@ impl Packets {
 
     /// Takes the first packet.
     pub fn pop(&mut self) -> Option<Packet>
-        ensures { MatchOption result ((self.old ≡ []) × (self.new ≡ [])) (λ packet. self.old ≡ packet ∷ self.new) }
+        ensures first { result ≡ first_of self.old }
+        ensures rest { self.new ≡ rest_of self.old }
     {
         self.inner.pop_front()
     }

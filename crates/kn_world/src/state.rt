@@ -1,112 +1,131 @@
 ghost use Rattle.std.specs.Prelude.{◌≡◌};
-ghost use Rattle.kn_world.specs.Steps.{start, no_bytes, nothing_in_flight};
+ghost use Rattle.kn_world.specs.States.{new_side, new_agent, new_client, new_door, new_app, new_dial, start};
 
+use crate::flow::Flow;
+use crate::numbered::Numbered;
 use crate::packets::Packets;
-use kn_io::{Blob, Text};
+use crate::parts::{Agent, App, Client, Dial, Door, Home, Owner, Side, Stage};
+use kn_connect::ConnectFront;
+use kn_edge_core::{AgentCore, ClientCore};
+use kn_io::Text;
+use kn_route::Strategies;
+use kn_server_core::ServerCore;
 use std::alloc::Global;
 
-/// How far the app has come, at its client.
-#[derive(Clone, Copy, Debug, PartialEq, Eq)]
-pub enum AppStage {
-    Absent,
-    Dialling,
-    Open,
-    Refused,
-}
-
-/// What the server has of the tunnel in its tables.
-#[derive(Clone, Copy, Debug, PartialEq, Eq)]
-pub enum Entry {
-    Nothing,
-    Awaited,
-    Held,
-}
-
-/// How far the dial has come: the server drew it, the agent handles it, the agent holds the connection.
-#[derive(Clone, Copy, Debug, PartialEq, Eq)]
-pub enum DialStage {
-    Undrawn,
-    Asked,
-    Dialling,
-    Open,
-}
-
-/// What the server chose from at the dial, and what it chose.
-#[derive(Clone, Copy, Debug, PartialEq, Eq)]
-pub enum Choice {
-    NotMade,
-    /// There was a link, or there was none, and this link was picked.
-    Made { has_link: bool, picked: Option<u64> },
-}
-
-/// The bytes of an app or a destination: those that it sent, of these the ones that were not yet handed to
-/// its end, and those that it got.
-#[derive(Drop)]
-pub struct Side {
-    pub sent: Blob,
-    pub kept: Blob,
-    pub got: Blob,
-}
-
-/// All that the world holds: at most one agent, one client and one app, and so one tunnel.
+/// All that a world holds. Agents, clients, apps and dials are numbered from 1.
 #[derive(Drop)]
 pub struct State {
-    pub agent: bool,
-    pub client: bool,
-    pub app: AppStage,
-    pub entry: Entry,
-    pub dial: DialStage,
-    pub choice: Choice,
-    pub error: Text,
-    pub app_side: Side,
-    pub dest_side: Side,
-    /// Packets on their way from the agent to the server, and back.
-    pub agent_up: Packets,
-    pub agent_down: Packets,
-    /// Packets on their way from the client to the server, and back.
-    pub client_up: Packets,
-    pub client_down: Packets,
+    pub server: ServerCore,
+    pub agents: Numbered<Agent>,
+    pub clients: Numbered<Client>,
+    pub apps: Numbered<App>,
+    pub dials: Numbered<Dial>,
+    /// To whom each front of the server belongs, by its number.
+    pub fronts: Numbered<Owner>,
 }
 
 impl Side {
     pub fn new(alloc: Global) -> Side
-        ensures { result ≡ no_bytes }
+        ensures { result ≡ new_side }
     {
         Side {
-            sent: Blob::new(alloc),
-            kept: Blob::new(alloc),
-            got: Blob::new(alloc),
+            sending: Flow::new(alloc),
+            coming: Flow::new(alloc),
+            ended: false,
+            end_given: false,
+            held: false,
+        }
+    }
+}
+
+impl Agent {
+    pub fn new(alloc: Global) -> Agent
+        ensures { result ≡ new_agent }
+    {
+        Agent {
+            core: AgentCore::new(alloc),
+            up: Packets::new(alloc),
+            down: Packets::new(alloc),
+            at_server: true,
+            at_agent: true,
+            cut: false,
+            drained: false,
+            connections: Numbered::new(alloc),
+        }
+    }
+}
+
+impl Client {
+    pub fn new(alloc: Global, front: u64) -> Client
+        ensures { result ≡ new_client front }
+    {
+        Client {
+            core: ClientCore::new(alloc),
+            up: Packets::new(alloc),
+            down: Packets::new(alloc),
+            front,
+            at_server: true,
+            at_client: true,
+            apps: Numbered::new(alloc),
+        }
+    }
+}
+
+impl Door {
+    pub fn new(alloc: Global) -> Door
+        ensures { result ≡ new_door }
+    {
+        Door {
+            front: ConnectFront::new(alloc),
+            number: 0,
+            early: Packets::new(alloc),
+            reply: 0,
+            closing: false,
+        }
+    }
+}
+
+impl App {
+    pub fn new(alloc: Global, home: Home) -> App
+        ensures { result ≡ new_app home }
+    {
+        App {
+            home,
+            stage: Stage::Dialling,
+            dial: 0,
+            error: Text::new(alloc),
+            side: Side::new(alloc),
+            door: Door::new(alloc),
+        }
+    }
+}
+
+impl Dial {
+    pub fn new(alloc: Global, link: u64, app: u64) -> Dial
+        ensures { result ≡ new_dial link app }
+    {
+        Dial {
+            link,
+            app,
+            handled: false,
+            ticket: 0,
+            connect_id: 0,
+            side: Side::new(alloc),
         }
     }
 }
 
 impl State {
-    pub fn new(alloc: Global) -> State
-        ensures { result ≡ start }
+    pub fn new(alloc: Global, strategies: Strategies) -> State
+        ensures { result ≡ start strategies }
     {
         State {
-            agent: false,
-            client: false,
-            app: AppStage::Absent,
-            entry: Entry::Nothing,
-            dial: DialStage::Undrawn,
-            choice: Choice::NotMade,
-            error: Text::new(alloc),
-            app_side: Side::new(alloc),
-            dest_side: Side::new(alloc),
-            agent_up: Packets::new(alloc),
-            agent_down: Packets::new(alloc),
-            client_up: Packets::new(alloc),
-            client_down: Packets::new(alloc),
+            server: ServerCore::new(alloc, strategies),
+            agents: Numbered::new(alloc),
+            clients: Numbered::new(alloc),
+            apps: Numbered::new(alloc),
+            dials: Numbered::new(alloc),
+            fronts: Numbered::new(alloc),
         }
-    }
-
-    pub fn nothing_in_flight(&self) -> bool
-        ensures { result ≡ nothing_in_flight self.now }
-    {
-        self.agent_up.is_empty()
-            && self.agent_down.is_empty()
-            && self.client_up.is_empty()
-            && self.client_down.is_empty()
     }
 }

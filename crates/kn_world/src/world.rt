@@ -1,15 +1,23 @@
-ghost use Rattle.std.specs.Prelude.{◌≡◌, ◌≤◌, ◌-◌, length, slice_index_or, IfOk, OnOk};
+ghost use Rattle.std.specs.Prelude.{◌≡◌, ◌≤◌, ◌-◌, ℕ, length, slice_index_or, IfOk, OnOk};
+ghost use Rattle.kn_world.specs.Events.{Happens, HappensAs, Runs, idle_one};
+ghost use Rattle.kn_world.specs.Idle as idle;
 ghost use Rattle.kn_world.specs.Shown.{AppShown, DialShown};
-ghost use Rattle.kn_world.specs.Steps.{start, shown, one_if, after, seen_of, after_all, idle_one, idle_count};
+ghost use Rattle.kn_world.specs.States.{start};
+ghost use Rattle.kn_world.specs.Views.{shown};
 
-use crate::effects::{happens, seen_of};
+use crate::effects::happen;
 use crate::event::{AppPhase, DialPhase, Seen, WorldEvent};
+use crate::idle::seen_of;
+use crate::pipes::nothing_in_flight;
 use crate::state::State;
+use crate::views::{app_phase, connection_sum, dial_phase, dial_sum, has_open, is_still};
 use kn_io::NoMemory;
+use kn_route::Strategies;
 use std::alloc::Global;
 use std::marker::Model;
 
-/// An agent, the server and a client, with at most one of each and one tunnel. Contracts see the whole state.
+/// Agents, the server and clients with their apps, and what is in flight between them. Contracts see the whole
+/// state.
 #[derive(Drop)]
 pub struct World {
     state: State,
@@ -22,9 +30,9 @@ pub struct Tables {
     pub awaited: usize,
     /// Tunnels that the server holds.
     pub held: usize,
-    /// Dials that an agent has begun.
+    /// Dials that the agents make.
     pub dials: usize,
-    /// Connections that an agent has.
+    /// Connections that the agents have.
     pub connections: usize,
 }
 
@@ -36,12 +44,6 @@ impl Model for World {
     ghost view = { λ w. w.state };
 }
 
-fn one_if(held: bool) -> usize
-    ensures { result ≡ one_if held }
-{
-    if held { 1 } else { 0 }
-}
-
 fn idle_one(seen: Seen) -> u64
     ensures { result ≡ idle_one seen }
 {
@@ -51,30 +53,38 @@ fn idle_one(seen: Seen) -> u64
     }
 }
 
+fn move_if(alloc: Global, state: &mut State, seen: Seen, event: &WorldEvent) -> Result<(), NoMemory>
+    ensures { OnOk result (HappensAs seen event.now state.old state.new) }
+{
+    match seen {
+        Seen::Moved => happen(alloc, state, event),
+        Seen::Idle => Ok(()),
+    }
+}
+
 impl World {
-    /// The world before any event. Takes no memory.
-    pub fn new(alloc: Global) -> World
-        ensures { result ≡ start }
+    /// The world before any event, in which dials find their links by these strategies. Takes no memory.
+    pub fn new(alloc: Global, strategies: Strategies) -> World
+        ensures { result ≡ start strategies }
     {
         World {
-            state: State::new(alloc),
+            state: State::new(alloc, strategies),
         }
     }
 
     /// An event happens. The answer says whether it did anything. Want of memory leaves a part of it done.
     pub fn apply(&mut self, alloc: Global, event: &WorldEvent) -> Result<Seen, NoMemory>
-        ensures seen { IfOk result (λ seen. seen ≡ seen_of event.now self.old) }
-        ensures after { OnOk result (self.new ≡ after event.now self.old) }
+        ensures seen { IfOk result (λ seen. seen ≡ idle.seen_of event.now self.old) }
+        ensures after { OnOk result (Happens event.now self.old self.new) }
     {
         let seen = seen_of(&self.state, event);
-        happens(alloc, &mut self.state, event)?;
+        move_if(alloc, &mut self.state, seen, event)?;
         Ok(seen)
     }
 
     /// Events happen, one after another. The answer counts those that did nothing.
     pub fn run(&mut self, alloc: Global, events: &[WorldEvent]) -> Result<u64, NoMemory>
-        ensures idle { IfOk result (λ idle. idle ≡ idle_count events.now self.old) }
-        ensures after { OnOk result (self.new ≡ after_all events.now self.old) }
+        ensures { IfOk result (λ idle. Runs events.now self.old idle self.new) }
     {
         let mut idle = 0;
         for event in events {
@@ -88,28 +98,28 @@ impl World {
     pub fn agent_count(&self) -> usize
         ensures { result ≡ (shown self.now).agents }
     {
-        one_if(self.state.agent)
+        self.state.agents.len()
     }
 
     /// How many clients came.
     pub fn client_count(&self) -> usize
         ensures { result ≡ (shown self.now).clients }
     {
-        one_if(self.state.client)
+        self.state.clients.len()
     }
 
     /// How many apps there are.
     pub fn app_count(&self) -> usize
         ensures { result ≡ length (shown self.now).apps }
     {
-        one_if(self.state.app.is_made())
+        self.state.apps.len()
     }
 
     /// How many dials the server drew.
     pub fn dial_count(&self) -> u64
         ensures { result ≡ length (shown self.now).dials }
     {
-        if self.state.dial.is_drawn() { 1 } else { 0 }
+        self.state.dials.len() as u64
     }
 
     /// How far an app has come.
@@ -118,7 +128,7 @@ impl World {
         requires made { app ≤ length (shown self.now).apps }
         ensures { (d : AppShown) → result ≡ (slice_index_or (shown self.now).apps (app - 1) d).phase }
     {
-        self.state.app.phase()
+        app_phase(&self.state.clients, &self.state.apps.as_slice()[app - 1])
     }
 
     /// The bytes that an app sent.
@@ -127,7 +137,7 @@ impl World {
         requires made { app ≤ length (shown self.now).apps }
         ensures { (d : AppShown) → result.now ≡ (slice_index_or (shown self.now).apps (app - 1) d).sent }
     {
-        self.state.app_side.sent.as_slice()
+        self.state.apps.as_slice()[app - 1].side.sending.all()
     }
 
     /// The bytes that an app got.
@@ -136,16 +146,16 @@ impl World {
         requires made { app ≤ length (shown self.now).apps }
         ensures { (d : AppShown) → result.now ≡ (slice_index_or (shown self.now).apps (app - 1) d).got }
     {
-        self.state.app_side.got.as_slice()
+        self.state.apps.as_slice()[app - 1].side.coming.passed()
     }
 
-    /// Why an app was refused, empty where it was not.
+    /// The error that an app was told, empty where it was told none.
     pub fn app_error(&self, app: usize) -> &str
         requires first { 1 ≤ app }
         requires made { app ≤ length (shown self.now).apps }
         ensures { (d : AppShown) → result.now ≡ (slice_index_or (shown self.now).apps (app - 1) d).error }
     {
-        self.state.error.as_str()
+        self.state.apps.as_slice()[app - 1].error.as_str()
     }
 
     /// The number of the link that a dial goes to.
@@ -154,7 +164,7 @@ impl World {
         requires drawn { dial ≤ length (shown self.now).dials }
         ensures { (d : DialShown) → result ≡ (slice_index_or (shown self.now).dials (dial - 1) d).link }
     {
-        1
+        self.state.dials.as_slice()[dial as usize - 1].link
     }
 
     /// The number of the app that a dial is for.
@@ -163,7 +173,7 @@ impl World {
         requires drawn { dial ≤ length (shown self.now).dials }
         ensures { (d : DialShown) → result ≡ (slice_index_or (shown self.now).dials (dial - 1) d).app }
     {
-        1
+        self.state.dials.as_slice()[dial as usize - 1].app as usize
     }
 
     /// How far a dial has come.
@@ -172,7 +182,10 @@ impl World {
         requires drawn { dial ≤ length (shown self.now).dials }
         ensures { (d : DialShown) → result ≡ (slice_index_or (shown self.now).dials (dial - 1) d).phase }
     {
-        self.state.dial.phase()
+        dial_phase(
+            &self.state.agents,
+            &self.state.dials.as_slice()[dial as usize - 1],
+        )
     }
 
     /// The bytes that the destination of a dial sent.
@@ -181,7 +194,10 @@ impl World {
         requires drawn { dial ≤ length (shown self.now).dials }
         ensures { (d : DialShown) → result.now ≡ (slice_index_or (shown self.now).dials (dial - 1) d).sent }
     {
-        self.state.dest_side.sent.as_slice()
+        self.state.dials.as_slice()[dial as usize - 1]
+            .side
+            .sending
+            .all()
     }
 
     /// The bytes that the destination of a dial got.
@@ -190,10 +206,13 @@ impl World {
         requires drawn { dial ≤ length (shown self.now).dials }
         ensures { (d : DialShown) → result.now ≡ (slice_index_or (shown self.now).dials (dial - 1) d).got }
     {
-        self.state.dest_side.got.as_slice()
+        self.state.dials.as_slice()[dial as usize - 1]
+            .side
+            .coming
+            .passed()
     }
 
-    /// How many dials and tunnels the server and the agents hold.
+    /// How many dials and tunnels the server and the agents hold. Sums stand still at their type's end.
     pub fn tables(&self) -> Tables
         ensures awaited { result.awaited ≡ (shown self.now).awaited }
         ensures held { result.held ≡ (shown self.now).held }
@@ -201,24 +220,25 @@ impl World {
         ensures connections { result.connections ≡ (shown self.now).connections }
     {
         Tables {
-            awaited: one_if(self.state.entry.is_awaited()),
-            held: one_if(self.state.entry.is_held()),
-            dials: one_if(self.state.dial.is_dialling()),
-            connections: one_if(self.state.dial.is_connected()),
+            awaited: self.state.server.awaited().len(),
+            held: self.state.server.held().len(),
+            dials: dial_sum(self.state.agents.as_slice()),
+            connections: connection_sum(self.state.agents.as_slice()),
         }
     }
 
-    /// Whether nothing is on its way and no agent is dialling.
+    /// Whether nothing is on its way, no agent dials or has a connection that lingers, and each connection that
+    /// one end lost was lost by the other.
     pub fn quiet(&self) -> bool
         ensures { result ≡ (shown self.now).quiet }
     {
-        self.state.nothing_in_flight() && !self.state.dial.is_dialling()
+        nothing_in_flight(&self.state) && is_still(&self.state)
     }
 
-    /// Whether the server holds nothing: no dial whose answer has not come, and no tunnel.
+    /// Whether the server awaits no answer and holds no open tunnel.
     pub fn closed(&self) -> bool
         ensures { result ≡ (shown self.now).closed }
     {
-        !self.state.entry.is_awaited() && !self.state.entry.is_held()
+        self.state.server.awaited().len() == 0 && !has_open(&self.state.server)
     }
 }

@@ -79,12 +79,12 @@ const REPLAYS: [Run; 12] = [
     },
     Run {
         words: REPLAY,
-        input: b"client\nagent -\nagent -\n",
+        input: b"client\nagent -\nagent x\n",
         failing_reads: &[],
         failing_writes: &[],
         status: 3,
         out: "",
-        err: "kn: line 3: over a limit\n",
+        err: "kn: line 3: bad identifiers\n",
     },
     Run {
         words: REPLAY,
@@ -114,7 +114,7 @@ const REPLAYS: [Run; 12] = [
         err: "kn: usage\n",
     },
     Run {
-        words: &["replay", "destHost"],
+        words: &["replay", "default,"],
         input: b"",
         failing_reads: &[],
         failing_writes: &[],

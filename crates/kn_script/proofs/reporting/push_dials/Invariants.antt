@@ -1,5 +1,5 @@
 use Rattle.std.proofs.Common.{◌≡◌, ◌++◌, take}
-use Rattle.kn_world.specs.Steps.{shown}
+use Rattle.kn_world.specs.Views.{shown}
 use Rattle.kn_script.specs.Report.{dial_line, numbered}
 use Rattle.kn_script.proofs.reporting.push_dials.Given as goal
 

@@ -1,9 +1,0 @@
-use Rattle.std.proofs.Common.{◌≡◌}
-use Rattle.kn_world.specs.Steps.{rounds}
-use Rattle.kn_world.proofs.delivery.rounds.Given as goal
-
-abbrev pub invariant-rounds : goal.invariant-rounds
-invariant-rounds l = rounds l.left l.state ≡ rounds l.fn.count l.fn.state
-
-abbrev pub decreases-rounds : goal.decreases-rounds
-decreases-rounds l = l.left

@@ -1,0 +1,43 @@
+-- Lists whose members are numbered from 1, and numbers as packets have them.
+use Rattle.std.specs.Prelude.{ℕ, ℤ, pos, negsuc, ◌-◌, ◌==◌, ◌<◌, nat_lt, List, [], ◌∷◌, Option, Some, None, slice_get, slice_set, if◌then◌else◌}
+
+-- the index of a number, from 0; that of 0, which is no number, is beyond every list
+abbrev pub place_of : ℕ → ℕ
+place_of number = if number == 0 then 18446744073709551615 else number - 1
+
+-- the member of a number
+abbrev pub nth : {X : Type 0} → ℕ → List X → Option X
+nth number xs = slice_get xs (place_of number)
+
+-- the members, of which the one of a number is another one
+abbrev pub put_nth : {X : Type 0} → ℕ → List X → X → List X
+put_nth number xs x = slice_set xs (place_of number) x
+
+-- the members, of which the one of a number, where there is one, is changed
+abbrev pub changed : {X : Type 0} → (X → X) → ℕ → List X → Option X → List X
+changed f number xs None = xs
+changed f number xs (Some x) = put_nth number xs (f x)
+
+abbrev pub change : {X : Type 0} → (X → X) → ℕ → List X → List X
+change f number xs = changed f number xs (nth number xs)
+
+-- a number that a packet has, 0 where it is negative
+abbrev pub number_of : ℤ → ℕ
+number_of (pos number) = number
+number_of (negsuc number) = 0
+
+-- a number as a packet has it, 0 where it is too large for one
+abbrev pub signed : ℕ → ℤ
+signed number = if nat_lt number 9223372036854775808 then pos number else pos 0
+
+abbrev pub or_none : Option ℕ → ℕ
+or_none None = 0
+or_none (Some number) = number
+
+abbrev pub first_of : {X : Type 0} → List X → Option X
+first_of [] = None
+first_of (x ∷ xs) = Some x
+
+abbrev pub rest_of : {X : Type 0} → List X → List X
+rest_of [] = []
+rest_of (x ∷ xs) = xs

@@ -1,0 +1,93 @@
+ghost use Rattle.std.specs.Prelude.{◌≡◌, [], ◌∷◌, ◌++◌, Some, None, length, ◌+◌, IfOk, OnOk, MatchOption};
+ghost use Rattle.kn_world.specs.Numbers.{place_of, nth, put_nth};
+
+use kn_io::NoMemory;
+use std::alloc::Global;
+use std::marker::Model;
+
+// The index of a number. That of 0, which is no number, is beyond every list.
+fn place_of(number: u64) -> usize
+    ensures { result ≡ place_of number }
+{
+    if number == 0 {
+        usize::MAX
+    } else {
+        number as usize - 1
+    }
+}
+
+/// A list whose members are numbered from 1. Contracts see the list. Each call takes constant time.
+#[derive(Drop)]
+pub struct Numbered<T> {
+    items: Vec<T>,
+}
+
+impl<T> Model for Numbered<T> {
+    ghost use Rattle.std.specs.Prelude.{List};
+
+    ghost Value = { List T };
+
+    ghost view = { λ n. n.items.items };
+}
+
+impl<T: Drop> Numbered<T> {
+    ghost use Rattle.std.specs.Borrow.{LendsIf, sem};
+    ghost use Rattle.kn_world.specs.contracts.numbered.Numbered.{the_row};
+
+    /// No members. Takes no memory.
+    pub fn new(alloc: Global) -> Numbered<T>
+        ensures { result ≡ [] }
+    {
+        Numbered {
+            items: Vec::new(alloc),
+        }
+    }
+
+    pub fn len(&self) -> usize
+        ensures { result ≡ length self.now }
+    {
+        self.items.len()
+    }
+
+    /// The number that the next member has.
+    pub fn next_number(&self) -> Result<u64, NoMemory>
+        ensures { IfOk result (λ number. number ≡ length self.now + 1) }
+    {
+        let count = self.items.len() as u64;
+        if count < u64::MAX {
+            Ok(count + 1)
+        } else {
+            Err(NoMemory)
+        }
+    }
+
+    /// The members in the order of their numbers.
+    pub fn as_slice(&self) -> &[T]
+        ensures { result.now ≡ self.now }
+    {
+        self.items.as_slice()
+    }
+
+    /// A further member, with the next number.
+    pub fn push(&mut self, item: T) -> Result<(), NoMemory>
+        ensures { OnOk result (self.new ≡ self.old ++ item ∷ []) }
+    {
+        self.items.push(item)?;
+        Ok(())
+    }
+
+    /// The member of a number. Of 0 there is none.
+    pub fn get(&self, number: u64) -> Option<&T>
+        ensures { MatchOption result (nth number self.now ≡ None) (λ x. nth number self.now ≡ Some x.now) }
+    {
+        self.items.get(place_of(number))
+    }
+
+    /// The member of a number, to be changed. Of 0 there is none.
+    pub fn get_mut(&mut self, number: u64) -> Option<&mut T>
+        ensures value { MatchOption result (nth number self.old ≡ None) (λ x. nth number self.old ≡ Some x.now) }
+        ensures* writes_back { sem 𝓛 (LendsIf (the_row T.row) T.row self.entry result (put_nth number self.old) self.old) }
+    {
+        self.items.get_mut(place_of(number))
+    }
+}
