@@ -1,14 +1,14 @@
-mod CutLemmas
-mod EntryLemmas
-mod FrontIsolation
-mod FrontLemmas
-mod LinkIsolation
-mod LossLemmas
-mod OrderLemmas
-mod PickLemmas
-mod ReachedLemmas
-mod SoundLemmas
-mod TunnelBytes
-mod TunnelLaws
-mod TunnelRuns
-mod TunnelTables
+pub mod CutLemmas
+pub mod EntryLemmas
+pub mod FrontIsolation
+pub mod FrontLemmas
+pub mod LinkIsolation
+pub mod LossLemmas
+pub mod OrderLemmas
+pub mod PickLemmas
+pub mod ReachedLemmas
+pub mod SoundLemmas
+pub mod TunnelBytes
+pub mod TunnelLaws
+pub mod TunnelRuns
+pub mod TunnelTables

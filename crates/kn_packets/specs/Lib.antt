@@ -1,0 +1,5 @@
+pub mod Keys
+pub mod Lifts
+pub mod Moves
+pub mod Outputs
+pub mod World
