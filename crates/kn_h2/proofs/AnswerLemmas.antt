@@ -1,18 +1,16 @@
 -- What holds goes on to hold where this end answers a request.
-use Rattle.std.proofs.Common.{◌≡◌, ℕ, ◌<◌, ◌≤◌, ◌&&◌, Bool, true, false, List, Option, Some, None, is_none, refl, sym, ap, ◌∙◌, arith}
+use Rattle.std.proofs.Common.{◌≡◌, ℕ, ◌<◌, Bool, true, false, List, Option, Some, None, refl}
 use Rattle.kn_hpack.specs.Fields.{Field}
 use Rattle.kn_hpack.specs.Encoding.{block_of}
-use Rattle.kn_h2_state.specs.declared.refusal.QueueRefusal.{QueueRefusal}
-use Rattle.kn_h2_state.specs.declared.refusal.QueueRefusal.TheVariants as queues
 use Rattle.kn_h2_state.specs.declared.stream.Stream.{Stream}
 use Rattle.kn_h2_state.specs.declared.state.State.{State}
-use Rattle.kn_h2_state.specs.Streams.{stream_at, change, is_kept, on_open}
+use Rattle.kn_h2_state.specs.Streams.{change, is_kept, on_open}
 use Rattle.kn_h2_state.specs.Moves.{headers_frames}
-use Rattle.kn_h2_state.specs.Calls.{takes_more, refused_where, refusal, after_answer}
+use Rattle.kn_h2_state.specs.Calls.{refused_where, refusal, after_answer}
 use Rattle.kn_h2_state.specs.Holding.{Holds, HasSum, HasRoom, IsHigh, is_at_rest}
 use Rattle.kn_h2.proofs.StreamLemmas.{all_change, rising_change, text_kept}
 use Rattle.kn_h2.proofs.HoldsLemmas.{holds_reply}
-use Rattle.kn_h2.proofs.FoundLemmas.{IsFound, found_open}
+use Rattle.kn_h2.proofs.FoundLemmas.{found_open}
 use Rattle.kn_h2.proofs.MakeLemmas.{number_fits}
 
 holds_answered : (n : ℕ) (s : State) → Holds s → Holds (record s { streams = change s.streams n (λ (st : Stream). record st { answered = true }); encoder = true })

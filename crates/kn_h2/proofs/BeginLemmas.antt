@@ -1,10 +1,9 @@
 -- What holds goes on to hold where this end begins a stream.
-use Rattle.std.proofs.Common.{◌≡◌, ◌≢◌, ℕ, ℤ, pos, ◌+◌, ◌<◌, ◌≤◌, ◌%◌, ◌+ℤ◌, ◌≤ℤ◌, Bool, true, false, ◌||◌, cond, eqb, leb, ltb, List, [], ◌∷◌, ◌++◌, length, Option, Some, None, refl, sym, ap, ◌∙◌, subst, arith}
+use Rattle.std.proofs.Common.{◌≡◌, ℕ, ◌+◌, ◌<◌, ◌≤◌, ◌%◌, Bool, true, false, ◌||◌, cond, eqb, ltb, List, [], ◌∷◌, ◌++◌, length, Option, Some, None, refl, ap, arith}
 use Rattle.std.proofs.lemmas.Int.{ints}
-use Rattle.std.proofs.lemmas.Bool.{eqb-true, eqb-false, eq-eqb, or_right, ltb-false}
+use Rattle.std.proofs.lemmas.Bool.{eqb-true, eq-eqb, or_right, ltb-false}
 use Rattle.kn_hpack.specs.Fields.{Field}
 use Rattle.kn_hpack.specs.Encoding.{block_of}
-use Rattle.kn_h2_state.specs.declared.refusal.BeginRefusal.{BeginRefusal}
 use Rattle.kn_h2_state.specs.declared.refusal.BeginRefusal.TheVariants as begins
 use Rattle.kn_h2_state.specs.declared.stream.Stream.{Stream}
 use Rattle.kn_h2_state.specs.declared.state.State.{State}
@@ -13,7 +12,7 @@ use Rattle.kn_h2_state.specs.Streams.{is_kept, open_count}
 use Rattle.kn_h2_state.specs.Effects.{new_stream}
 use Rattle.kn_h2_state.specs.Moves.{headers_frames}
 use Rattle.kn_h2_state.specs.Calls.{is_many, next_number, begin_refused, begin_refusal, after_begin}
-use Rattle.kn_h2_state.specs.Holding.{Holds, Rising, HasSum, HasRoom, IsHigh, is_at_rest, is_odd_or_none, text_bytes}
+use Rattle.kn_h2_state.specs.Holding.{Holds, HasSum, HasRoom, IsHigh, is_at_rest, is_odd_or_none, text_bytes}
 use Rattle.kn_h2.proofs.StreamLemmas.{all_push, rising_push}
 use Rattle.kn_h2.proofs.HoldsLemmas.{marked_put, replies_same}
 

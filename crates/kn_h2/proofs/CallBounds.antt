@@ -1,20 +1,17 @@
 -- What holds of a connection goes on to hold through the calls of this end on a stream.
-use Rattle.std.proofs.Common.{◌≡◌, ℕ, zero, suc, ℤ, pos, ◌+ℤ◌, ◌-ℤ◌, ◌≤ℤ◌, ◌+◌, ◌-◌, ◌<◌, ◌≤◌, ◌^◌, Bool, true, false, not, ◌&&◌, ◌||◌, cond, eqb, List, [], ◌∷◌, ◌++◌, length, drop, Option, Some, None, IfSome, get_or, min, refl, sym, ap, ◌∙◌, subst, arith, length-drop}
-use Rattle.std.specs.List.{AllByRecursion}
+use Rattle.std.proofs.Common.{◌≡◌, ℕ, zero, suc, pos, ◌+ℤ◌, ◌+◌, ◌<◌, ◌≤◌, Bool, true, false, ◌&&◌, cond, eqb, List, [], ◌∷◌, length, drop, Option, Some, None, IfSome, get_or, min, refl, sym, ap, ◌∙◌, subst, arith, length-drop}
 use Rattle.std.proofs.lemmas.List.{drop_more, drop_all}
 use Rattle.std.proofs.lemmas.Int.{ints}
-use Rattle.std.proofs.lemmas.Bool.{and_parts, or_left, or_right, eqb-true}
+use Rattle.std.proofs.lemmas.Bool.{and_parts, or_left, eqb-true}
 use Rattle.kn_hpack.specs.Fields.{Field}
 use Rattle.kn_h2_state.specs.declared.refusal.QueueRefusal.{QueueRefusal}
 use Rattle.kn_h2_state.specs.declared.stream.Stream.{Stream}
 use Rattle.kn_h2_state.specs.declared.state.State.{State}
-use Rattle.kn_h2_state.specs.Limits.{highest_stream}
-use Rattle.kn_h2_state.specs.Outgoing.{taken, count_true, reply_part}
+use Rattle.kn_h2_state.specs.Outgoing.{taken, count_true}
 use Rattle.kn_h2_state.specs.Streams.{stream_at, with_stream, change, is_open, is_kept, tidied, passes, on_open, shut}
-use Rattle.kn_h2_state.specs.Effects.{on_stream}
 use Rattle.kn_h2_state.specs.Calls.{with_taken, text_in, text_of, takes_more, refused_where, refusal, or_full, queue_of, queue_refusal, with_queued, with_finish, unsent, after_reset}
 use Rattle.kn_h2_state.specs.Holding.{Rising, HasSum, HasRoom, text_bytes, IsHigh, is_at_rest, Holds}
-use Rattle.kn_h2.proofs.StreamLemmas.{change_none, all_at, all_change, all_tidied, kept_tidied, text_tidied, rising_tidied, rising_change, text_at, text_change, text_kept, number_of}
+use Rattle.kn_h2.proofs.StreamLemmas.{change_none, all_at, all_change, all_tidied, kept_tidied, text_tidied, rising_tidied, rising_change, text_at, text_change, text_kept}
 use Rattle.kn_h2.proofs.HoldsLemmas.{holds_gentle, holds_reply, shut_is_gentle}
 
 -- ---- text that was taken

@@ -1,17 +1,13 @@
 -- What holds of a connection at its beginning, after an event was told, and after want of memory.
-use Rattle.std.proofs.Common.{◌≡◌, ℕ, ℤ, pos, ◌+ℤ◌, ◌≤ℤ◌, ◌+◌, ◌≤◌, true, false, List, [], length, Option, Some, None, IfSome, refl, sym, arith}
-use Rattle.std.specs.List.{AllByRecursion}
+use Rattle.std.proofs.Common.{◌≡◌, pos, false, List, [], None, refl, arith}
 use Rattle.std.proofs.lemmas.Int.{ints}
 use Rattle.kn_h2_state.specs.declared.role.Role.{Role}
 use Rattle.kn_h2_state.specs.declared.event.H2Event.{H2Event}
-use Rattle.kn_h2_state.specs.declared.state.Block.{Block}
 use Rattle.kn_h2_state.specs.declared.state.State.{State}
-use Rattle.kn_h2_state.specs.declared.stream.Stream.{Stream}
-use Rattle.kn_h2_state.specs.Limits.{reply_limit, connection_window, highest_stream, largest_window}
-use Rattle.kn_h2_state.specs.Streams.{is_kept}
-use Rattle.kn_h2_state.specs.Outgoing.{Out, nothing_out, put, count_true, reply_bytes}
+use Rattle.kn_h2_state.specs.Limits.{connection_window}
+use Rattle.kn_h2_state.specs.Outgoing.{nothing_out, count_true}
 use Rattle.kn_h2_state.specs.Calls.{fresh_state, opening}
-use Rattle.kn_h2_state.specs.Holding.{Rising, HasSum, HasRoom, text_bytes, IsHigh, is_at_rest, is_odd_or_none, Holds}
+use Rattle.kn_h2_state.specs.Holding.{Rising, text_bytes, Holds}
 use Rattle.kn_h2.proofs.HoldsLemmas.{replies_same, marked_put}
 
 pub holds_told : (s : State) (es : List H2Event) → Holds s → Holds (record s { events = es })

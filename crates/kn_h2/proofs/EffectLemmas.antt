@@ -1,6 +1,6 @@
 -- What a frame does, by its type.
-use Rattle.std.proofs.Common.{◌≡◌, ◌≢◌, ℕ, ◌+◌, ◌<◌, ◌≤◌, Bool, true, false, not, ◌&&◌, ◌||◌, cond, eqb, List, [], ◌∷◌, ◌++◌, length, drop, get_or, Option, Some, None, is_some, Result, Ok, Err, refl, sym, ap, ◌∙◌, subst, arith}
-use Rattle.std.proofs.lemmas.Bool.{eq-eqb, ne_eqb, eqb-true, eqb-false, and_parts, and_left, or_parts, or_from, cases_Bool}
+use Rattle.std.proofs.Common.{◌≡◌, ◌≢◌, ℕ, ◌+◌, ◌<◌, ◌≤◌, Bool, true, false, ◌||◌, eqb, List, ◌∷◌, length, drop, get_or, Some, None, is_some, Ok, refl, sym, ap, ◌∙◌}
+use Rattle.std.proofs.lemmas.Bool.{ne_eqb, eqb-true, and_parts}
 use Rattle.std.proofs.lemmas.List.{drop_more, drop_all}
 use Rattle.kn_frames.specs.declared.frame.Frame.{Frame}
 use Rattle.kn_hpack.specs.Fields.{Field, Table}
@@ -8,8 +8,8 @@ use Rattle.kn_hpack.specs.Blocks.{read_block, progress}
 use Rattle.kn_h2_state.specs.declared.state.State.{State}
 use Rattle.kn_h2_state.specs.Streams.{stream_at}
 use Rattle.kn_h2_state.specs.Rules.{is_of_block, ends_block, block_with, verdict}
-use Rattle.kn_h2_state.specs.Effects.{fail, effect, data_of, block_of_headers, block_grown, block_ends, decoded, head_of, if_open, reset_of, settings, ping, goaway, window_update}
-use Rattle.kn_h2_state.specs.Feeding.{without_blocks, judged, after_frame, after_frames}
+use Rattle.kn_h2_state.specs.Effects.{fail, effect, data_of, block_of_headers, block_grown, block_ends, head_of, if_open, reset_of, settings, ping, goaway, window_update}
+use Rattle.kn_h2_state.specs.Feeding.{without_blocks, after_frame, after_frames}
 
 -- the tests of a type
 tests : (k n : ℕ) → k ≢ n → eqb k n ≡ false

@@ -1,7 +1,6 @@
 -- Moves one after another.
-use Rattle.std.proofs.Common.{◌≡◌, ℕ, zero, suc, ◌+◌, ◌-◌, ◌<◌, ◌≤◌, Bool, true, false, not, ◌&&◌, cond, leb, List, [], ◌∷◌, ◌++◌, length, take, drop, Option, Some, None, is_some, is_none, refl, sym, ap, ◌∙◌, subst, arith, length-append}
+use Rattle.std.proofs.Common.{◌≡◌, ℕ, ◌+◌, ◌-◌, ◌<◌, Bool, true, false, cond, leb, List, [], ◌∷◌, ◌++◌, length, take, drop, Option, Some, None, is_some, is_none, refl, sym, ap, subst, arith, length-append}
 use Rattle.std.specs.Int.{to_be_bytes, w32}
-use Rattle.std.proofs.lemmas.Bool.{and_parts}
 use Rattle.kn_frames.specs.Frames.{spelled}
 use Rattle.kn_hpack.specs.Fields.{Field}
 use Rattle.kn_hpack.specs.Encoding.{block_of}
@@ -10,12 +9,10 @@ use Rattle.kn_h2_state.specs.declared.moves.Move.{Move}
 use Rattle.kn_h2_state.specs.declared.moves.Move.TheVariants.{GrantAll, Grant, Send, End, Stop}
 use Rattle.kn_h2_state.specs.declared.stream.Stream.{Stream}
 use Rattle.kn_h2_state.specs.declared.state.State.{State}
-use Rattle.kn_h2_state.specs.Payloads.{grant_frame, reset_frame}
 use Rattle.kn_h2_state.specs.Rules.{is_client}
-use Rattle.kn_h2_state.specs.Streams.{stream_at}
 use Rattle.kn_h2_state.specs.Moves.{may, is_owed, can_send, can_end, can_stop, made, after_move, end_frames, headers_frames, more_headers, Makes, Reaches}
-use Rattle.kn_h2.proofs.FoundLemmas.{IsFound, found_open}
-use Rattle.kn_h2.proofs.MoveLemmas.{IsMove, move_parts, IsEndable, end_parts}
+use Rattle.kn_h2.proofs.FoundLemmas.{found_open}
+use Rattle.kn_h2.proofs.MoveLemmas.{move_parts, end_parts}
 
 pub none_made : (s : State) → Reaches s s
 none_made s = ([], refl)

@@ -1,12 +1,12 @@
 -- A move that was found stream by stream may be made, and where none was found none may be.
-use Rattle.std.proofs.Common.{◌≡◌, ℕ, zero, suc, ℤ, pos, ◌+◌, ◌-◌, ◌<◌, ◌≤◌, ◌≤ℤ◌, ◌%◌, Bool, true, false, ◌&&◌, ◌||◌, cond, eqb, leb, ltb, List, [], ◌∷◌, length, get_or, take, drop, length-drop, Option, Some, None, is_some, is_none, refl, sym, ap, ◌∙◌, subst, arith}
+use Rattle.std.proofs.Common.{◌≡◌, ℕ, zero, suc, ℤ, pos, ◌-◌, ◌<◌, ◌≤◌, ◌≤ℤ◌, Bool, true, false, ◌&&◌, cond, eqb, leb, ltb, List, [], ◌∷◌, length, get_or, take, drop, length-drop, Option, Some, None, is_some, is_none, refl, sym, ap, ◌∙◌, subst, arith}
 use Rattle.std.specs.Prelude.{int_le}
 use Rattle.std.specs.Option.{IfNone, IfSome}
 use Rattle.std.specs.List.{All, Any}
 use Rattle.std.proofs.lemmas.List.{take-append-drop, take_all}
 use Rattle.std.proofs.lemmas.List.Elements.{All-append}
 use Rattle.std.proofs.lemmas.Int.{ints}
-use Rattle.std.proofs.lemmas.Bool.{and_parts, and_left, and_right, and_from, or_parts, or_left, or_right, eqb-true, eqb-false, ne_eqb, lt-ltb, le-ltb, leb-true, leb-false, le-leb, lt-leb, false_from_ne_true}
+use Rattle.std.proofs.lemmas.Bool.{and_parts, and_left, and_right, and_from, or_parts, or_left, or_right, eqb-true, ne_eqb, lt-ltb, le-ltb, leb-true, leb-false, le-leb, lt-leb, false_from_ne_true}
 use Rattle.kn_h2_state.specs.declared.moves.Move.{Move}
 use Rattle.kn_h2_state.specs.declared.moves.Move.TheVariants.{GrantAll, Grant, Send, End, Stop}
 use Rattle.kn_h2_state.specs.declared.stream.Stream.{Stream}
@@ -15,7 +15,6 @@ use Rattle.kn_h2_state.specs.Streams.{stream_at, is_open, passes, on_open}
 use Rattle.kn_h2_state.specs.Moves.{may, is_due, is_owed, can_send, can_end, can_stop}
 use Rattle.kn_h2_state.specs.Holding.{Rising}
 use Rattle.kn_h2.specs.Finding.{is_due_of, has_work}
-use Rattle.kn_h2.proofs.PlaceLemmas.{none_below}
 use Rattle.kn_h2.proofs.MoveLemmas.{IsSendable, send_parts}
 
 -- numbers rise, so the stream at a place is the one of its number

@@ -1,26 +1,24 @@
 -- What holds of a connection goes on to hold through a header block, and through each frame.
-use Rattle.std.proofs.Common.{◌≡◌, ◌≢◌, ℕ, ℤ, pos, ◌+ℤ◌, ◌≤ℤ◌, ◌+◌, ◌<◌, ◌≤◌, ◌%◌, Bool, true, false, not, ◌&&◌, ◌||◌, cond, eqb, ltb, leb, List, [], ◌∷◌, ◌++◌, length, Option, Some, None, is_some, is_none, Result, Ok, Err, IfSome, refl, sym, ap, ◌∙◌, subst, arith}
-use Rattle.std.specs.List.{AllByRecursion}
+use Rattle.std.proofs.Common.{◌≡◌, ◌≢◌, ℕ, ◌<◌, ◌≤◌, ◌%◌, Bool, true, false, not, ◌&&◌, ◌||◌, eqb, ltb, leb, List, length, Option, Some, None, is_some, is_none, Result, Ok, Err, IfSome, refl, arith}
 use Rattle.std.proofs.lemmas.Int.{ints}
-use Rattle.std.proofs.lemmas.Bool.{eqb-true, eqb-false, eq-eqb, ltb-true, ltb-false, or_parts, or_left, or_right, and_parts, and_cases, not-true, not-false, cond_both}
+use Rattle.std.proofs.lemmas.Bool.{eqb-true, eqb-false, eq-eqb, ltb-true, ltb-false, or_parts, or_right, and_parts, not-false, cond_both}
 use Rattle.kn_frames.specs.declared.frame.Frame.{Frame}
 use Rattle.kn_frames.specs.Frames.{IsWithinLimits}
 use Rattle.kn_windows.specs.Windows.{can_spend}
 use Rattle.kn_hpack.specs.Fields.{Field}
 use Rattle.kn_hpack.specs.Blocks.{Progress, read_block}
 use Rattle.kn_hpack.specs.declared.fault.HpackFault.{HpackFault}
-use Rattle.kn_h2_state.specs.declared.event.H2Event.TheVariants.{Opened, Head, Reset}
 use Rattle.kn_h2_state.specs.declared.stream.Stream.{Stream}
 use Rattle.kn_h2_state.specs.declared.state.Block.{Block}
 use Rattle.kn_h2_state.specs.declared.state.State.{State}
 use Rattle.kn_h2_state.specs.Limits.{block_limit, highest_stream, stream_limit}
 use Rattle.kn_h2_state.specs.Streams.{stream_at, is_open, is_kept, open_count, shut, on_open}
-use Rattle.kn_h2_state.specs.Payloads.{has, settings_of, reset_frame}
+use Rattle.kn_h2_state.specs.Payloads.{settings_of}
 use Rattle.kn_h2_state.specs.Heads.{is_malformed_request, is_malformed_response, is_informational}
-use Rattle.kn_h2_state.specs.Rules.{is_client, is_idle, continues, breaks_block, block_with, is_of_block, ends_block, breaks_windows, verdict}
-use Rattle.kn_h2_state.specs.Effects.{event, fail, reply, on_stream, peer_ends, if_open, ended_if, new_stream, opens, accepted, request, headed, refused_response, response, head_of, decoded, block_ends, block_grown, block_of_headers, effect}
+use Rattle.kn_h2_state.specs.Rules.{is_client, is_idle, continues, block_with, ends_block, breaks_windows, verdict}
+use Rattle.kn_h2_state.specs.Effects.{peer_ends, if_open, new_stream, opens, accepted, request, headed, refused_response, response, head_of, decoded, block_ends, block_grown, block_of_headers, effect}
 use Rattle.kn_h2_state.specs.Feeding.{without_blocks, judged, after_frame}
-use Rattle.kn_h2_state.specs.Holding.{Rising, HasSum, HasRoom, text_bytes, IsHigh, is_at_rest, is_odd_or_none, Holds}
+use Rattle.kn_h2_state.specs.Holding.{HasSum, HasRoom, IsHigh, is_at_rest, is_odd_or_none, Holds}
 use Rattle.kn_h2.proofs.StreamLemmas.{all_push, rising_higher, rising_push, text_push}
 use Rattle.kn_h2.proofs.HoldsLemmas.{holds_event, holds_fail, holds_reply, holds_gentle, shut_is_gentle, answered_is_gentle, holds_peer_ends, holds_ended_if, holds_data, holds_reset, holds_settings, holds_ping, holds_goaway, holds_window_update, holds_began}
 use Rattle.kn_h2.specs.Passing.{Passes}

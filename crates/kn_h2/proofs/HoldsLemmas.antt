@@ -1,15 +1,15 @@
 -- What holds of a connection goes on to hold: one lemma for each step of which effects are made.
-use Rattle.std.proofs.Common.{◌≡◌, ℕ, zero, suc, ℤ, pos, ◌+ℤ◌, ◌-ℤ◌, ◌≤ℤ◌, ◌+◌, ◌-◌, ◌*◌, ◌<◌, ◌≤◌, ◌%◌, Bool, true, false, not, ◌&&◌, ◌||◌, cond, eqb, ltb, List, [], ◌∷◌, ◌++◌, length, take, drop, filter, map, replicate, Option, Some, None, IfSome, ◌⊎◌, inl, inr, refl, sym, ap, ◌∙◌, subst, arith, length-append, length-take, length-drop}
+use Rattle.std.proofs.Common.{◌≡◌, ℕ, zero, suc, ℤ, pos, ◌+ℤ◌, ◌-ℤ◌, ◌≤ℤ◌, ◌+◌, ◌-◌, ◌<◌, ◌≤◌, Bool, true, false, not, ◌&&◌, ◌||◌, cond, eqb, ltb, List, [], ◌∷◌, ◌++◌, length, take, drop, replicate, Option, Some, None, IfSome, ◌⊎◌, inl, inr, refl, sym, ap, ◌∙◌, subst, arith, length-append, length-take, length-drop}
 use Rattle.std.specs.List.{AllByRecursion, list_any}
 use Rattle.std.proofs.lemmas.Int.{ints}
 use Rattle.std.specs.Prelude.{int_le}
-use Rattle.std.proofs.lemmas.Bool.{eqb-true, eqb-false, ltb-false, or_cases, or_parts, or_left, or_right, not-false, eq-eqb, cond_both}
+use Rattle.std.proofs.lemmas.Bool.{eqb-true, ltb-false, or_cases, or_parts, or_left, or_right, not-false, eq-eqb, cond_both}
 use Rattle.std.proofs.lemmas.List.{length-replicate}
 use Rattle.kn_frames.specs.declared.frame.Frame.{Frame}
 use Rattle.kn_windows.specs.Windows.{can_spend}
 use Rattle.kn_frames.specs.Frames.{spelled}
 use Rattle.kn_h2_state.specs.declared.event.H2Event.{H2Event}
-use Rattle.kn_h2_state.specs.declared.event.H2Event.TheVariants.{Ended, Reset, Text}
+use Rattle.kn_h2_state.specs.declared.event.H2Event.TheVariants.{Ended, Text}
 use Rattle.kn_h2_state.specs.declared.stream.Stream.{Stream}
 use Rattle.kn_h2_state.specs.declared.state.State.{State}
 use Rattle.kn_h2_state.specs.Limits.{reply_limit, largest_window}
@@ -18,8 +18,8 @@ use Rattle.kn_h2_state.specs.Streams.{stream_at, change, is_open, is_kept, tidie
 use Rattle.kn_h2_state.specs.Payloads.{content, field_bytes, padding, increment_of, number_at, settings_of, has}
 use Rattle.kn_h2_state.specs.Rules.{shifted_one, shifted, breaks_windows, shifts_over}
 use Rattle.kn_h2_state.specs.Effects.{event, fail, reply, on_stream, peer_ends, if_open, with_text, data_taken, text_told, ended_if, data_in, data_dropped, data_of, cut_off, reset_of, after_setting, after_settings, settings, ping, goaway, with_grant, window_update}
-use Rattle.kn_h2_state.specs.Holding.{Rising, HasSum, HasRoom, text_bytes, IsHigh, is_at_rest, Holds}
-use Rattle.kn_h2.proofs.StreamLemmas.{change_none, all_at, all_change, all_weaker, all_map, all_tidied, kept_tidied, text_tidied, rising_tidied, rising_change, rising_map, text_change, text_kept, text_map}
+use Rattle.kn_h2_state.specs.Holding.{HasSum, HasRoom, IsHigh, is_at_rest, Holds}
+use Rattle.kn_h2.proofs.StreamLemmas.{all_at, all_change, all_weaker, all_map, all_tidied, kept_tidied, text_tidied, rising_tidied, rising_change, rising_map, text_change, text_kept, text_map}
 
 -- ---- what waits for the socket
 

@@ -1,14 +1,14 @@
 -- What the steps of a move make is the state after it.
-use Rattle.std.proofs.Common.{◌≡◌, ℕ, ℤ, pos, ◌+◌, ◌-◌, ◌+ℤ◌, ◌-ℤ◌, ◌≤ℤ◌, ◌<◌, ◌≤◌, ◌%◌, Bool, true, false, not, ◌&&◌, ◌||◌, cond, eqb, List, [], ◌∷◌, ◌++◌, length, take, drop, Option, Some, None, IfSome, is_some, refl, sym, ap, ◌∙◌, subst, arith}
+use Rattle.std.proofs.Common.{◌≡◌, ℕ, ℤ, pos, ◌-ℤ◌, ◌≤ℤ◌, ◌<◌, ◌≤◌, Bool, true, false, not, ◌||◌, cond, eqb, List, [], ◌∷◌, length, take, Option, Some, None, IfSome, is_some, refl, sym, ap, ◌∙◌, subst, arith}
 use Rattle.std.specs.Prelude.{int_le}
 use Rattle.std.proofs.lemmas.Int.{ints}
-use Rattle.std.proofs.lemmas.Bool.{or_right, or_parts, eqb-true}
+use Rattle.std.proofs.lemmas.Bool.{or_right, eqb-true}
 use Rattle.kn_windows.specs.Windows.{can_spend}
 use Rattle.kn_frames.specs.Frames.{spelled}
 use Rattle.kn_hpack.specs.Fields.{Field}
 use Rattle.kn_hpack.specs.Encoding.{block_of}
 use Rattle.kn_h2_state.specs.declared.moves.Move.{Move}
-use Rattle.kn_h2_state.specs.declared.moves.Move.TheVariants.{GrantAll, Grant, Send, End, Stop}
+use Rattle.kn_h2_state.specs.declared.moves.Move.TheVariants.{Grant, Send, End, Stop}
 use Rattle.kn_h2_state.specs.declared.stream.Stream.{Stream}
 use Rattle.kn_h2_state.specs.declared.state.State.{State}
 use Rattle.kn_h2_state.specs.Outgoing.{Out, put}
@@ -17,10 +17,10 @@ use Rattle.kn_h2_state.specs.Rules.{is_client}
 use Rattle.kn_h2_state.specs.Streams.{stream_at, change, tidied}
 use Rattle.kn_h2_state.specs.Moves.{may, is_owed, can_send, can_end, can_stop, made, after_move, target, granted, sent_some, own_ended, stopped, end_frames, headers_frames}
 use Rattle.kn_h2_state.specs.Calls.{queue_in}
-use Rattle.kn_h2_state.specs.Holding.{Holds, Rising, HasSum}
+use Rattle.kn_h2_state.specs.Holding.{Holds, Rising}
 use Rattle.kn_h2.specs.Finding.{owed_in, finish_in}
-use Rattle.kn_h2.proofs.FoundLemmas.{IsFound, found_open}
-use Rattle.kn_h2.proofs.MoveLemmas.{move_parts, IsSendable, send_parts, IsEndable, end_parts}
+use Rattle.kn_h2.proofs.FoundLemmas.{found_open}
+use Rattle.kn_h2.proofs.MoveLemmas.{move_parts, send_parts, end_parts}
 
 -- ---- numbers
 

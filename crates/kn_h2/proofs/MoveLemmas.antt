@@ -1,7 +1,6 @@
 -- What always holds goes on to hold after each move.
-use Rattle.std.proofs.Common.{◌≡◌, ℕ, ℤ, pos, ◌+◌, ◌-◌, ◌+ℤ◌, ◌-ℤ◌, ◌≤ℤ◌, ◌<◌, ◌≤◌, Bool, true, false, not, ◌&&◌, ◌||◌, cond, eqb, leb, ltb, List, [], ◌∷◌, ◌++◌, length, take, drop, Option, Some, None, is_some, is_none, refl, sym, ap, ◌∙◌, subst, arith}
-use Rattle.std.specs.Prelude.{int_le, nat_lt, nat_le}
-use Rattle.std.specs.List.{AllByRecursion}
+use Rattle.std.proofs.Common.{◌≡◌, ℕ, ℤ, pos, ◌≤ℤ◌, ◌<◌, ◌≤◌, Bool, true, false, not, eqb, leb, ltb, length, take, Option, Some, None, is_some, is_none, refl, sym, subst, arith}
+use Rattle.std.specs.Prelude.{int_le}
 use Rattle.std.proofs.lemmas.Int.{ints}
 use Rattle.std.proofs.lemmas.Bool.{and_parts, or_left, or_right, eqb-true, ltb-true, leb-true}
 use Rattle.kn_frames.specs.Frames.{spelled, head}
@@ -9,15 +8,13 @@ use Rattle.kn_h2_state.specs.declared.moves.Move.{Move}
 use Rattle.kn_h2_state.specs.declared.moves.Move.TheVariants.{GrantAll, Grant, Send, End, Stop}
 use Rattle.kn_h2_state.specs.declared.stream.Stream.{Stream}
 use Rattle.kn_h2_state.specs.declared.state.State.{State}
-use Rattle.kn_h2_state.specs.Outgoing.{put, reply_bytes}
 use Rattle.kn_h2_state.specs.Payloads.{grant_frame, reset_frame}
 use Rattle.kn_h2_state.specs.Rules.{is_client}
-use Rattle.kn_h2_state.specs.Streams.{stream_at, change, is_open, is_kept, on_open, tidied}
-use Rattle.kn_h2_state.specs.Effects.{on_stream}
+use Rattle.kn_h2_state.specs.Streams.{stream_at, change}
 use Rattle.kn_h2_state.specs.Moves.{may, is_due, is_owed, can_send, can_end, can_stop, made, after_move, granted, sent_some, own_ended, stopped, end_frames}
-use Rattle.kn_h2_state.specs.Holding.{Holds, Rising, HasSum, HasRoom, IsHigh, is_at_rest, text_bytes}
-use Rattle.kn_h2.proofs.StreamLemmas.{all_at, all_change, all_tidied, kept_tidied, text_tidied, rising_tidied, rising_change, text_kept}
-use Rattle.kn_h2.proofs.FoundLemmas.{IsFound, found_open}
+use Rattle.kn_h2_state.specs.Holding.{Holds, HasSum, HasRoom, IsHigh, is_at_rest}
+use Rattle.kn_h2.proofs.StreamLemmas.{all_change, all_tidied, kept_tidied, text_tidied, rising_tidied, rising_change, text_kept}
+use Rattle.kn_h2.proofs.FoundLemmas.{found_open}
 use Rattle.kn_h2_state.proofs.RunLemmas.{count_true-le}
 use Rattle.kn_h2.proofs.HoldsLemmas.{marked_put, replies_same, replies_more}
 

@@ -1,6 +1,5 @@
 -- Queued bytes go out in their order, and what is sent is what the windows lose.
-use Rattle.std.proofs.Common.{◌≡◌, ℕ, ℤ, pos, ◌+◌, ◌-◌, ◌+ℤ◌, ◌-ℤ◌, ◌<◌, ◌≤◌, Bool, true, false, not, cond, eqb, List, [], ◌∷◌, ◌++◌, length, take, drop, Option, Some, None, refl, sym, ap, ◌∙◌, subst, arith, append_assoc}
-use Rattle.std.specs.List.{AllByRecursion}
+use Rattle.std.proofs.Common.{◌≡◌, ℕ, ℤ, pos, ◌+◌, ◌-ℤ◌, Bool, true, false, not, cond, eqb, List, [], ◌∷◌, ◌++◌, length, take, Option, Some, None, refl, sym, ap, ◌∙◌, subst, arith, append_assoc}
 use Rattle.std.proofs.lemmas.Int.{ints}
 use Rattle.std.proofs.lemmas.Bool.{eqb-true, eqb-false}
 use Rattle.std.proofs.lemmas.List.{take-append-drop}
@@ -15,7 +14,7 @@ use Rattle.kn_h2_state.specs.Calls.{queue_in, queue_of}
 use Rattle.kn_h2_state.specs.Holding.{Holds, is_at_rest}
 use Rattle.kn_h2.specs.Sending.{sent_by, sent, spent_by, spent}
 use Rattle.kn_h2.proofs.StreamLemmas.{all_change, rising_change}
-use Rattle.kn_h2.proofs.FoundLemmas.{IsFound, found_open}
+use Rattle.kn_h2.proofs.FoundLemmas.{found_open}
 use Rattle.kn_h2.proofs.PlaceLemmas.{at_changed, at_other, queue_changed, queue_tidied}
 use Rattle.kn_h2.proofs.MoveLemmas.{move_parts, move_keeps, end_parts, ended_rest}
 

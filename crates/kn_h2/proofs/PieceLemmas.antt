@@ -1,12 +1,12 @@
 -- A piece of the peer's bytes, by what was cut of it.
-use Rattle.std.proofs.Common.{◌≡◌, ℕ, Bool, true, false, not, cond, List, ◌++◌, Option, Some, None, is_some, refl, sym, ap, ◌∙◌}
+use Rattle.std.proofs.Common.{◌≡◌, ℕ, true, false, not, List, Some, None, is_some, refl, ap, ◌∙◌}
 use Rattle.kn_frames.specs.declared.frame.Frame.{Frame}
 use Rattle.kn_frames.specs.declared.fault.FrameFault.{FrameFault}
 use Rattle.kn_frames.specs.Readers.{Reading, start, after_bytes, frames_in, fault_in}
 use Rattle.kn_h2_state.specs.declared.role.Role.{Role}
 use Rattle.kn_h2_state.specs.declared.state.State.{State}
 use Rattle.kn_h2_state.specs.Rules.{is_client}
-use Rattle.kn_h2_state.specs.Feeding.{Connection, after_frames, after_fault, after_piece}
+use Rattle.kn_h2_state.specs.Feeding.{after_frames, after_fault, after_piece}
 use Rattle.kn_h2_state.specs.Calls.{fresh_state, fresh}
 use Rattle.kn_h2.specs.Connections.{connection}
 

@@ -1,12 +1,11 @@
 -- Where a stream is found after one of them changed, and after those with nothing left went.
-use Rattle.std.proofs.Common.{◌≡◌, ℕ, ◌+◌, ◌%◌, ◌<◌, ◌≤◌, Bool, true, false, not, ◌&&◌, ◌||◌, cond, eqb, List, [], ◌∷◌, ◌++◌, length, Option, Some, None, is_none, refl, sym, ap, ◌∙◌, subst, arith}
+use Rattle.std.proofs.Common.{◌≡◌, ℕ, ◌≤◌, Bool, true, false, not, ◌&&◌, ◌||◌, cond, eqb, List, [], ◌∷◌, length, Option, Some, None, is_none, refl, sym, ap, ◌∙◌, subst, arith}
 use Rattle.std.specs.List.{AllByRecursion}
-use Rattle.std.proofs.lemmas.Bool.{eqb-true, eqb-false, ne_eqb, eq-eqb, or_parts, and_parts}
+use Rattle.std.proofs.lemmas.Bool.{eqb-true, ne_eqb, or_parts, and_parts}
 use Rattle.kn_h2_state.specs.declared.stream.Stream.{Stream}
 use Rattle.kn_h2_state.specs.Streams.{stream_at, change, is_open, is_kept, tidied}
 use Rattle.kn_h2_state.specs.Calls.{queue_in}
 use Rattle.kn_h2_state.specs.Holding.{Rising, is_at_rest}
-use Rattle.kn_h2.proofs.StreamLemmas.{number_of, rising_lower}
 
 -- the stream that changed
 pub at_changed : (ss : List Stream) (n : ℕ) (f : Stream → Stream) (st : Stream) → ((x : Stream) → (f x).number ≡ x.number) → stream_at ss n ≡ Some st → stream_at (change ss n f) n ≡ Some (f st)

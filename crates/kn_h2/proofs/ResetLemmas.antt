@@ -1,15 +1,15 @@
 -- RST_STREAM by the two cases of its definition.
-use Rattle.std.proofs.Common.{◌≡◌, ℕ, ℤ, pos, ◌+ℤ◌, ◌+◌, ◌<◌, ◌≤◌, ◌^◌, Bool, true, false, not, ◌&&◌, cond, eqb, List, length, Option, Some, None, refl, sym, ap, ◌∙◌, arith}
+use Rattle.std.proofs.Common.{◌≡◌, ℕ, ◌+◌, ◌<◌, ◌^◌, Bool, true, false, not, ◌&&◌, cond, eqb, length, Option, Some, None, refl, ap, arith}
 use Rattle.std.proofs.lemmas.Int.{ints}
-use Rattle.std.proofs.lemmas.Bool.{and_parts, cond-true, cond-false}
+use Rattle.std.proofs.lemmas.Bool.{and_parts}
 use Rattle.kn_frames.specs.declared.frame.Frame.{Frame}
 use Rattle.kn_h2_state.specs.declared.stream.Stream.{Stream}
 use Rattle.kn_h2_state.specs.declared.state.State.{State}
 use Rattle.kn_h2_state.specs.Payloads.{number_at}
-use Rattle.kn_h2_state.specs.Streams.{stream_at, is_open, passes, on_open, shut}
+use Rattle.kn_h2_state.specs.Streams.{stream_at, is_open, shut}
 use Rattle.kn_h2_state.specs.Rules.{is_client}
 use Rattle.kn_h2_state.specs.Effects.{if_open, reset_of, on_stream, cut_off}
-use Rattle.kn_h2_state.specs.Holding.{text_bytes, Holds}
+use Rattle.kn_h2_state.specs.Holding.{Holds}
 use Rattle.kn_h2.specs.Resets.{gone, unread_of, loses_nothing}
 use Rattle.kn_h2.proofs.StreamLemmas.{text_at}
 

@@ -1,13 +1,7 @@
 -- A frame that breaks no rule fails no test.
-use Rattle.std.proofs.Common.{◌≡◌, ℕ, pos, ◌+◌, ◌%◌, Bool, true, false, not, ◌&&◌, ◌||◌, cond, eqb, ltb, leb, List, [], ◌∷◌, ◌++◌, length, Option, Some, None, is_some, is_none, refl}
-use Rattle.std.specs.List.{list_any}
+use Rattle.std.proofs.Common.{◌≡◌, ℕ, Bool, true, false, cond, List, [], ◌∷◌, ◌++◌, Some, None, refl}
 use Rattle.kn_frames.specs.declared.frame.Frame.{Frame}
-use Rattle.kn_windows.specs.Windows.{can_grow}
-use Rattle.kn_hpack.specs.Blocks.{read_block}
 use Rattle.kn_h2_state.specs.declared.state.State.{State}
-use Rattle.kn_h2_state.specs.Limits.{block_limit}
-use Rattle.kn_h2_state.specs.Streams.{on_open}
-use Rattle.kn_h2_state.specs.Payloads.{has, field_bytes, padding, increment_of, settings_of}
 use Rattle.kn_h2.specs.Passing.{Passes}
 use Rattle.kn_h2_state.specs.Rules.{first_broken, frame_rules, window_rules, stream_rules, block_rules, rules, verdict}
 

@@ -1,11 +1,8 @@
 -- Streams by their places, and settings one by one.
-use Rattle.std.proofs.Common.{◌≡◌, ℕ, zero, suc, ℤ, pos, ◌+◌, ◌<◌, ◌≤◌, Bool, true, false, ◌||◌, cond, eqb, ltb, List, [], ◌∷◌, ◌++◌, length, take, drop, set, map, Option, Some, None, IfSome, refl, sym, ap, ◌∙◌, subst, arith, add-one}
+use Rattle.std.proofs.Common.{◌≡◌, ℕ, zero, suc, ◌+◌, ◌<◌, Bool, false, List, [], ◌∷◌, ◌++◌, length, take, drop, set, map, Some, None, IfSome, refl, sym, ap, ◌∙◌, subst, arith, add-one}
 use Rattle.std.specs.List.{list_any, slice_get}
-use Rattle.std.proofs.lemmas.Bool.{or_parts, ltb-false, eqb-true, eq-eqb}
+use Rattle.std.proofs.lemmas.Bool.{or_parts}
 use Rattle.kn_h2_state.specs.declared.stream.Stream.{Stream}
-use Rattle.kn_h2_state.specs.declared.state.State.{State}
-use Rattle.kn_h2_state.specs.Limits.{largest_window}
-use Rattle.kn_h2_state.specs.Rules.{shifted, shifts_over, breaks_windows}
 use Rattle.kn_h2.specs.Places.{changed_at}
 
 pub changed_some : (ss : List Stream) (place : ℕ) (f : Stream → Stream) (s : Stream) → slice_get ss place ≡ Some s → set ss place (f s) ≡ changed_at ss place f

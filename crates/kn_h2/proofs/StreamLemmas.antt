@@ -1,9 +1,9 @@
 -- Streams by their numbers: one of them changes, and those with nothing left go.
-use Rattle.std.proofs.Common.{◌≡◌, ◌≢◌, ℕ, ℤ, pos, ◌+◌, ◌-◌, ◌<◌, ◌≤◌, ◌%◌, Bool, true, false, not, ◌&&◌, ◌||◌, cond, eqb, List, [], ◌∷◌, ◌++◌, length, filter, map, Option, Some, None, refl, sym, ap, ◌∙◌, subst, arith}
+use Rattle.std.proofs.Common.{◌≡◌, ℕ, ◌+◌, ◌<◌, ◌≤◌, ◌%◌, Bool, true, false, not, cond, eqb, List, [], ◌∷◌, ◌++◌, length, map, Some, None, refl, sym, ap, ◌∙◌, subst, arith}
 use Rattle.std.specs.List.{AllByRecursion}
-use Rattle.std.proofs.lemmas.Bool.{eqb-true, eqb-false, or_parts, not-false, eq-eqb}
+use Rattle.std.proofs.lemmas.Bool.{eqb-true, or_parts, not-false}
 use Rattle.kn_h2_state.specs.declared.stream.Stream.{Stream}
-use Rattle.kn_h2_state.specs.Streams.{stream_at, with_stream, change, is_open, is_kept, tidied, passes, on_open}
+use Rattle.kn_h2_state.specs.Streams.{stream_at, with_stream, change, is_open, is_kept, tidied}
 use Rattle.kn_h2_state.specs.Holding.{Rising, text_bytes}
 
 -- ---- one stream changes

@@ -1,5 +1,5 @@
 -- What an effect rests on: tests of the rules that the frame did not fail (RFC 9113, sections 4 to 6).
-use Rattle.std.specs.Prelude.{◌≡◌, ℕ, pos, ◌+◌, ◌%◌, ◌==◌, nat_le, nat_lt, Bool, false, not, ◌&&◌, ◌||◌, length}
+use Rattle.std.specs.Prelude.{◌≡◌, pos, ◌+◌, ◌%◌, ◌==◌, nat_le, nat_lt, false, not, ◌&&◌, ◌||◌, length}
 use Rattle.kn_frames.specs.declared.frame.Frame.{Frame}
 use Rattle.kn_windows.specs.Windows.{can_grow}
 use Rattle.kn_h2_state.specs.declared.state.State.{State}

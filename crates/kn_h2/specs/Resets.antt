@@ -1,5 +1,5 @@
 -- A stream that its peer resets (RFC 9113, section 6.4).
-use Rattle.std.specs.Prelude.{ℕ, ◌+◌, ◌==◌, Bool, not, ◌&&◌, List, [], length, Option, Some, None, if◌then◌else◌}
+use Rattle.std.specs.Prelude.{ℕ, ◌+◌, ◌==◌, Bool, not, ◌&&◌, [], length, Option, Some, None, if◌then◌else◌}
 use Rattle.kn_h2_state.specs.declared.event.H2Event.TheVariants.{Reset}
 use Rattle.kn_h2_state.specs.declared.stream.Stream.{Stream}
 use Rattle.kn_h2_state.specs.declared.state.State.{State}

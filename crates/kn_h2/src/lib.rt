@@ -25,9 +25,9 @@ mod ruin;
 mod sending;
 mod shifts;
 mod status;
+mod steady;
 mod stream_calls;
 mod taking;
-mod steady;
 mod text;
 mod windows;
 
@@ -36,3 +36,6 @@ pub use kn_h2_state::{BeginRefusal, H2Event, QueueRefusal, Role};
 pub use laws::frames_keep;
 pub use sending::sending_laws;
 pub use steady::{ends_are_written, moves_tell_nothing, role_stays};
+
+#[cfg(test)]
+mod tests;

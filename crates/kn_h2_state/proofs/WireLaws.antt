@@ -21,7 +21,7 @@ use Rattle.kn_h2_state.specs.Rules.{is_client}
 use Rattle.kn_h2_state.specs.Moves.{more_headers, headers_frames, can_send, is_due, may, made, after_move, target, end_frames}
 use Rattle.kn_h2_state.specs.Calls.{queue_in, queue_of}
 use Rattle.kn_h2_state.specs.Holding.{Rising}
-use Rattle.kn_h2_state.specs.Wire.{frame_text, texts_in, grants_in, data_in_all, ends_in, WireSplits, frame, spellings, ReadsBack, WrittenIsRead, more_list, head_list, payloads, HeadIsWritten, end_list, made_frames, move_frames, moved_text, MovesAreWritten}
+use Rattle.kn_h2_state.specs.Wire.{frame_text, texts_in, grants_in, data_lengths_in, ends_in, WireSplits, frame, spellings, ReadsBack, WrittenIsRead, more_list, head_list, payloads, HeadIsWritten, end_list, made_frames, move_frames, moved_text, MovesAreWritten}
 use Rattle.kn_h2_state.proofs.PieceLaws.{frames-append, bytes-append}
 
 -- ---- sums over frames
@@ -36,10 +36,10 @@ unfolding grants_in
 grants-append n [] gs = omega arith
 grants-append n (f ∷ fs) gs = let e : grants_in n (fs ++ gs) ≡ grants_in n fs + grants_in n gs = grants-append n fs gs in omega arith
 
-data-append : (n : ℕ) (fs gs : List Frame) → data_in_all n (fs ++ gs) ≡ data_in_all n fs + data_in_all n gs
-unfolding data_in_all
-data-append n [] gs = omega arith
-data-append n (f ∷ fs) gs = let e : data_in_all n (fs ++ gs) ≡ data_in_all n fs + data_in_all n gs = data-append n fs gs in omega arith
+lengths-append : (n : ℕ) (fs gs : List Frame) → data_lengths_in n (fs ++ gs) ≡ data_lengths_in n fs + data_lengths_in n gs
+unfolding data_lengths_in
+lengths-append n [] gs = omega arith
+lengths-append n (f ∷ fs) gs = let e : data_lengths_in n (fs ++ gs) ≡ data_lengths_in n fs + data_lengths_in n gs = lengths-append n fs gs in omega arith
 
 ends-append : (n : ℕ) (fs gs : List Frame) → ends_in n (fs ++ gs) ≡ ends_in n fs + ends_in n gs
 unfolding ends_in
@@ -52,7 +52,7 @@ wire_splits n r xs ys =
     record {
       text = ap (texts_in n) e ∙ texts-append n (frames_in r xs) (frames_in (after_bytes r xs) ys);
       grants = ap (grants_in n) e ∙ grants-append n (frames_in r xs) (frames_in (after_bytes r xs) ys);
-      taken = ap (data_in_all n) e ∙ data-append n (frames_in r xs) (frames_in (after_bytes r xs) ys);
+      taken = ap (data_lengths_in n) e ∙ lengths-append n (frames_in r xs) (frames_in (after_bytes r xs) ys);
       ends = ap (ends_in n) e ∙ ends-append n (frames_in r xs) (frames_in (after_bytes r xs) ys);
     }
 

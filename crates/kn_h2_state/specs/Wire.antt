@@ -46,15 +46,15 @@ abbrev pub wire_grants : ℕ → Reading → List ℕ → ℕ
 wire_grants n r bytes = grants_in n (frames_in r bytes)
 
 -- what a frame takes of the window of a stream: DATA with its padding
-unfoldable pub frame_data : ℕ → Frame → ℕ
-frame_data n f = if (f.kind == 0) && (f.stream == n) then length f.payload else 0
+unfoldable pub data_length : ℕ → Frame → ℕ
+data_length n f = if (f.kind == 0) && (f.stream == n) then length f.payload else 0
 
-unfoldable pub data_in_all : ℕ → List Frame → ℕ
-data_in_all n [] = 0
-data_in_all n (f ∷ fs) = frame_data n f + data_in_all n fs
+unfoldable pub data_lengths_in : ℕ → List Frame → ℕ
+data_lengths_in n [] = 0
+data_lengths_in n (f ∷ fs) = data_length n f + data_lengths_in n fs
 
 abbrev pub wire_data : ℕ → Reading → List ℕ → ℕ
-wire_data n r bytes = data_in_all n (frames_in r bytes)
+wire_data n r bytes = data_lengths_in n (frames_in r bytes)
 
 -- a frame ends the sender's half of a stream: END_STREAM, or RST_STREAM
 unfoldable pub is_end : ℕ → Frame → Bool

@@ -1,5 +1,5 @@
 -- Each place where a move is found, or none.
-use Rattle.kn_h2.proofs.FindLemmas.{HasRoomToMove, room_from, stopped_by_failure, stopped_by_room, grant_all_found, found_in, some_found, none_found}
+use Rattle.kn_h2.proofs.FindLemmas.{room_from, stopped_by_failure, stopped_by_room, grant_all_found, found_in, some_found, none_found}
 use Rattle.kn_h2.proofs.finding.next_move.Goals as goal
 
 pub returns-then-is_some-clause-none : goal.returns-then-is_some-clause-none

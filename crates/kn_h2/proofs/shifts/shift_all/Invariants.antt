@@ -1,4 +1,4 @@
-use Rattle.std.proofs.Common.{◌≡◌, ◌≤◌, ◌++◌, length, take, drop}
+use Rattle.std.proofs.Common.{◌≡◌, ◌++◌, take, drop}
 use Rattle.kn_h2_state.specs.Rules.{shifted}
 use Rattle.kn_h2.proofs.shifts.shift_all.Given as goal
 

@@ -1,4 +1,4 @@
-use Rattle.std.proofs.Common.{sym, ◌∙◌}
+use Rattle.std.proofs.Common.{sym}
 use Rattle.kn_h2_state.specs.Rules.{shifted_one}
 use Rattle.kn_h2.proofs.ShiftLemmas.{changed_some, changed_none}
 use Rattle.kn_h2.proofs.shifts.shift_at.Goals as goal
