@@ -1,5 +1,5 @@
 -- The choice of a link, cause by cause.
-use Rattle.std.proofs.Common.{◌≡◌, ℕ, ℤ, ◌==◌, nat_lt, Bool, true, false, List, [], ◌∷◌, Option, Some, None, Result, Ok, Err, refl, ap, arith, sym, ◌∙◌, is_some, if◌then◌else◌, codes}
+use Rattle.std.proofs.Common.{◌≡◌, ℕ, ℤ, ◌==◌, nat_lt, Bool, true, false, List, [], ◌∷◌, Option, Some, None, Result, Ok, Err, refl, ap, arith, is_some, if◌then◌else◌, codes}
 use Rattle.kn_route.specs.declared.host.HostFault.{HostFault}
 use Rattle.kn_route.specs.declared.strategy.Strategy.{Strategy}
 use Rattle.kn_route.specs.Choice.{pick}
@@ -8,8 +8,8 @@ use Rattle.kn_tables.specs.declared.awaited_entry.AwaitedEntry.{AwaitedEntry}
 use Rattle.kn_tables.specs.Lists.{first_where}
 use Rattle.kn_tables.specs.Awaiting.{is_random}
 use Rattle.kn_server_core.specs.declared.state.State.{State}
-use Rattle.kn_server_core.specs.Server.{tunnels_of, is_tcp, number_choice, host_choice, dial_choice}
-use Rattle.kn_world.specs.Choices.{IsPicked, FindsNone, ReachesChoice, no_agent_available, GoesWherePicked, IsRefusedWhereNone, IsRefusedNowhereElse}
+use Rattle.kn_server_core.specs.Server.{tunnels_of, is_tcp, number_choice, host_choice}
+use Rattle.kn_world.specs.Choices.{FindsNone, no_agent_available, GoesWherePicked, IsRefusedWhereNone, IsRefusedNowhereElse}
 
 -- the first byte of an error's text, by which the texts differ
 abbrev error_head : Result ℕ (List ℕ) → ℕ

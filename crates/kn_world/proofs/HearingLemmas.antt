@@ -1,10 +1,10 @@
 -- What the front of an app holds after an answer, and answers that are passed on.
-use Rattle.std.proofs.Common.{◌≡◌, ◌≢◌, ℕ, List, Result, Ok, Err, OnOk}
+use Rattle.std.proofs.Common.{◌≡◌, ℕ, List, Result, Ok, Err, OnOk}
 use Rattle.kn_connect.specs.Answers.{Holds, IsGiven}
 use Rattle.kn_connect.specs.declared.answer.ConnectAnswer.{ConnectAnswer}
 use Rattle.kn_connect.specs.declared.answer.ConnectAnswer.TheVariants.{More, Head}
 use Rattle.kn_connect.specs.declared.answer.ConnectError.{ConnectError}
-use Rattle.kn_connect.specs.declared.answer.ConnectError.TheVariants.{NoMemory, Fault}
+use Rattle.kn_connect.specs.declared.answer.ConnectError.TheVariants.{Fault}
 use Rattle.kn_world.specs.Hearing.{holds}
 
 pub what_it_holds : (answer : Result ConnectAnswer ConnectError) (bytes new : List ℕ) → Holds answer bytes new → new ≡ holds answer bytes

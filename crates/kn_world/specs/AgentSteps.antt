@@ -1,5 +1,5 @@
 -- What an agent does with an event, and where its outputs go.
-use Rattle.std.specs.Prelude.{ℕ, ℤ, ◌==◌, min, Bool, true, false, not, List, [], ◌∷◌, Option, Some, None, if◌then◌else◌}
+use Rattle.std.specs.Prelude.{ℕ, ℤ, ◌==◌, min, Bool, false, not, List, [], ◌∷◌, Option, Some, None, if◌then◌else◌}
 use Rattle.kn_packet.specs.declared.packet.Packet.{Packet}
 use Rattle.kn_packet.specs.declared.packet.Packet.TheVariants.{DialReq, DialRsp, CloseReq, CloseRsp, Data, DialCls, Drain, Other}
 use Rattle.kn_edge_core.specs.declared.agent_event.AgentEvent.{AgentEvent}

@@ -1,6 +1,5 @@
 -- Agents and their links: what enters a link's lists and leaves them, and what an agent's core does.
 use Rattle.std.specs.Prelude.{ℕ, ℤ, Bool, true, false, List, [], ◌∷◌, ◌++◌, length, Option, Some, None}
-use Rattle.std.specs.Option.{option_map}
 use Rattle.kn_packet.specs.declared.packet.Packet.{Packet}
 use Rattle.kn_edge_core.specs.declared.agent_event.AgentEvent.{AgentEvent}
 use Rattle.kn_edge_core.specs.declared.agent_event.AgentOut.{AgentOut}

@@ -1,5 +1,5 @@
 -- Apps, by their numbers.
-use Rattle.std.specs.Prelude.{ℕ, Bool, true, List, [], ◌∷◌, Option, Some, None}
+use Rattle.std.specs.Prelude.{ℕ, Bool, List, [], ◌∷◌, Option, Some, None}
 use Rattle.kn_packet.specs.declared.packet.Packet.{Packet}
 use Rattle.kn_edge_core.specs.declared.app.AppState.{AppState}
 use Rattle.kn_edge_core.specs.declared.app.AppState.TheVariants as state

@@ -1,5 +1,5 @@
 -- Agents, clients and apps that come.
-use Rattle.std.specs.Prelude.{◌≡◌, ℕ, ◌+◌, List, [], ◌∷◌, ◌++◌, length, Option, Some, None, Result, Ok, Err, codes, if◌then◌else◌}
+use Rattle.std.specs.Prelude.{ℕ, ◌+◌, List, [], ◌∷◌, ◌++◌, length, Option, Some, None, Result, Ok, Err, codes, if◌then◌else◌}
 use Rattle.kn_route.specs.declared.id_kind.IdKind.{IdKind}
 use Rattle.kn_route.specs.declared.identifiers.IdFault.{IdFault}
 use Rattle.kn_route.specs.Identifiers.{identifiers_in}

@@ -1,5 +1,5 @@
 -- Which link a dial goes to, and when there is none.
-use Rattle.std.specs.Prelude.{◌≡◌, ℕ, ℤ, nat_lt, true, List, [], ◌∷◌, Option, Some, None, Result, Ok, Err, IsTrue, codes}
+use Rattle.std.specs.Prelude.{◌≡◌, ℕ, ℤ, nat_lt, true, List, Some, None, Result, Ok, Err, codes}
 use Rattle.kn_route.specs.declared.strategy.Strategy.{Strategy}
 use Rattle.kn_route.specs.Choice.{pick}
 use Rattle.kn_route.specs.Hosts.{host_in}

@@ -1,12 +1,11 @@
 -- Dials and their destinations.
-use Rattle.std.specs.Prelude.{ℕ, ℤ, Bool, true, false, List, [], ◌∷◌, ◌++◌, Option, Some, None, is_some}
+use Rattle.std.specs.Prelude.{ℕ, ℤ, Bool, true, false, List, Option, Some, None, is_some}
 use Rattle.std.specs.Option.{option_map}
 use Rattle.kn_tables.specs.Lists.{first_where}
 use Rattle.kn_edge_core.specs.declared.connection.DestState.{DestState}
 use Rattle.kn_edge_core.specs.AgentTables.{is_dial, connection_at}
 use Rattle.kn_world.specs.declared.parts.Agent.{Agent}
 use Rattle.kn_world.specs.declared.parts.Dial.{Dial}
-use Rattle.kn_world.specs.Flows.{with_more, passed_on}
 use Rattle.kn_world.specs.Numbers.{or_none}
 use Rattle.kn_world.specs.Sides as side
 

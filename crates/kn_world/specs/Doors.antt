@@ -5,7 +5,6 @@ use Rattle.kn_packet.specs.declared.packet.Packet.{Packet}
 use Rattle.kn_packet.specs.declared.packet.Packet.TheVariants.{DialReq, DialRsp, CloseReq, CloseRsp, Data, DialCls, Drain, Other}
 use Rattle.kn_connect.specs.declared.answer.ConnectFault.{ConnectFault}
 use Rattle.kn_connect.specs.declared.answer.ConnectFault.TheVariants.{BadHead, NotConnect, TooLong}
-use Rattle.kn_connect.specs.Replies.{status_and_reason, reply_text}
 use Rattle.kn_world.specs.declared.parts.App.{App}
 use Rattle.kn_world.specs.declared.parts.Door.{Door}
 use Rattle.kn_world.specs.declared.parts.Stage.{Stage}

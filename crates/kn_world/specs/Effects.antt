@@ -1,5 +1,5 @@
 -- What an event does.
-use Rattle.std.specs.Prelude.{◌≡◌, ℕ, ◌==◌, Bool, true, false, List, Option, Some, None, codes, if◌then◌else◌}
+use Rattle.std.specs.Prelude.{◌≡◌, ℕ, ◌==◌, Bool, true, false, List, Option, Some, None, codes}
 use Rattle.kn_edge_core.specs.declared.agent_event.AgentEvent.TheVariants as agent_event
 use Rattle.kn_edge_core.specs.declared.client_event.ClientEvent.TheVariants as client_event
 use Rattle.kn_world.specs.declared.event.WorldEvent.{WorldEvent}

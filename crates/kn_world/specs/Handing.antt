@@ -1,5 +1,5 @@
 -- Bytes and ends of apps that their nodes are given: a client, or the server where an app came by CONNECT.
-use Rattle.std.specs.Prelude.{ℕ, ◌==◌, ◌&&◌, not, nat_lt, min, Bool, false, List, length, take, Option, Some, None, if◌then◌else◌}
+use Rattle.std.specs.Prelude.{ℕ, nat_lt, min, Bool, false, List, length, take, Option, Some, None, if◌then◌else◌}
 use Rattle.kn_packet.specs.declared.packet.Packet.{Packet}
 use Rattle.kn_edge_core.specs.declared.client_event.ClientEvent.TheVariants as event
 use Rattle.kn_edge_core.specs.declared.app.AppState.{AppState}

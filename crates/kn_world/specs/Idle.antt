@@ -4,7 +4,6 @@ use Rattle.kn_world.specs.declared.event.Seen.{Seen}
 use Rattle.kn_world.specs.declared.event.Seen.TheVariants.{Moved, Idle}
 use Rattle.kn_world.specs.declared.event.WorldEvent.{WorldEvent}
 use Rattle.kn_world.specs.declared.event.WorldEvent.TheVariants as event
-use Rattle.kn_world.specs.declared.parts.Agent.{Agent}
 use Rattle.kn_world.specs.declared.parts.App.{App}
 use Rattle.kn_world.specs.declared.parts.Client.{Client}
 use Rattle.kn_world.specs.declared.parts.Dial.{Dial}

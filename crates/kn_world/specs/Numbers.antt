@@ -1,5 +1,5 @@
 -- Lists whose members are numbered from 1, and numbers as packets have them.
-use Rattle.std.specs.Prelude.{ℕ, ℤ, pos, negsuc, ◌-◌, ◌==◌, ◌<◌, nat_lt, List, [], ◌∷◌, Option, Some, None, slice_get, slice_set, if◌then◌else◌}
+use Rattle.std.specs.Prelude.{ℕ, ℤ, pos, negsuc, ◌-◌, ◌==◌, nat_lt, List, [], ◌∷◌, Option, Some, None, slice_get, slice_set, if◌then◌else◌}
 
 -- the index of a number, from 0; that of 0, which is no number, is beyond every list
 abbrev pub place_of : ℕ → ℕ

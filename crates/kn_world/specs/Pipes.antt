@@ -1,5 +1,5 @@
 -- What is in flight is delivered: a packet, all of a pipe, or round by round.
-use Rattle.std.specs.Prelude.{ℕ, zero, suc, ◌+◌, ◌==◌, ◌&&◌, Bool, List, length, Option, Some, None, if◌then◌else◌}
+use Rattle.std.specs.Prelude.{ℕ, zero, suc, ◌==◌, ◌&&◌, Bool, length, Option, Some, None, if◌then◌else◌}
 use Rattle.std.specs.List.{list_all}
 use Rattle.kn_packet.specs.declared.packet.Packet.{Packet}
 use Rattle.kn_world.specs.declared.event.Pipe.{Pipe}

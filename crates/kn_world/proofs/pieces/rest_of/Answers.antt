@@ -1,4 +1,4 @@
-use Rattle.std.proofs.Common.{◌≡◌, ◌-◌, ◌∙◌, length, take, drop, ap}
+use Rattle.std.proofs.Common.{◌∙◌}
 use Rattle.std.proofs.lemmas.List.{take_rest}
 use Rattle.kn_world.proofs.FlowLemmas.{drop_min}
 use Rattle.kn_world.proofs.pieces.rest_of.Goals as goal

@@ -1,4 +1,3 @@
-use Rattle.std.proofs.Common.{◌∙◌}
 use Rattle.kn_world.proofs.OpenLemmas.{open_where}
 use Rattle.kn_world.proofs.views.has_open.Goals as goal
 

@@ -1,4 +1,4 @@
-use Rattle.std.proofs.Common.{◌≡◌, ◌+◌, ◌≤◌, ℕ, drop}
+use Rattle.std.proofs.Common.{◌+◌, ◌≤◌, ℕ, drop}
 use Rattle.kn_world.specs.declared.state.State.{State}
 use Rattle.kn_world.specs.Events.{Runs}
 use Rattle.kn_world.proofs.world.World.run.Given as goal
