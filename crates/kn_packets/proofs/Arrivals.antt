@@ -1,14 +1,12 @@
 -- A link or a front comes up at the server, and the server loses a link.
-use Rattle.std.proofs.Common.{◌≡◌, ◌==◌, ◌&&◌, ◌||◌, ◌++◌, ℕ, ℤ, pos, Bool, true, false, not, cond, List, [], ◌∷◌, Option, Some, None, inl, inr, refl, sym, ap, ◌∙◌, eqb-true, subst}
+use Rattle.std.proofs.Common.{◌≡◌, ◌==◌, ℕ, pos, Bool, true, false, not, List, [], Option, Some, None, inl, inr, refl, ◌∙◌, eqb-true, subst}
 use Rattle.kn_packet.specs.declared.packet.Packet.{Packet}
-use Rattle.kn_route.specs.LinkLists.{has_link}
 use Rattle.kn_route.specs.declared.id_kind.IdKind.{IdKind}
 use Rattle.kn_tables.specs.Lists.{first_where}
 use Rattle.kn_tables.specs.Awaiting.{is_dial}
 use Rattle.kn_tables.specs.Holding.{is_held_dial}
 use Rattle.kn_tables.specs.declared.awaited_entry.AwaitedEntry.{AwaitedEntry}
 use Rattle.kn_tables.specs.declared.held_entry.HeldEntry.{HeldEntry}
-use Rattle.kn_server_core.specs.Isolation.{Each}
 use Rattle.kn_server_core.specs.FrontLists.{is_up}
 use Rattle.kn_server_core.specs.Server.{ignored}
 use Rattle.kn_tables.specs.declared.held_entry.HeldState.{HeldState}
@@ -26,7 +24,7 @@ use Rattle.kn_tunnel.specs.Tunnel.{Coming, Front, Gone, Present}
 use Rattle.kn_packets.specs.Keys.{Keys}
 use Rattle.kn_packets.specs.Lifts.{Lifts}
 use Rattle.kn_packets.specs.Moves.{FrontComes, IsFrontOf, LinkComes, May, ServerLosesFront, ServerLosesLink, after, front_is, in_is, out_is, served}
-use Rattle.kn_packets.specs.World.{World, entry_at, tunnel, tunnel_of}
+use Rattle.kn_packets.specs.World.{World, entry_at, tunnel_of}
 use Rattle.kn_packets.proofs.Fresh.{eqb_refl}
 use Rattle.kn_packets.proofs.FrontLosses as front_lifts
 use Rattle.kn_packets.proofs.LinkLosses.{lost_lifts}

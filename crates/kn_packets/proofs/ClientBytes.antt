@@ -1,40 +1,35 @@
 -- A client takes bytes, or a close.
-use Rattle.std.proofs.Common.{◌≡◌, ◌≢◌, ◌==◌, ◌&&◌, ◌||◌, ◌++◌, ◌⊎◌, ℕ, ℤ, pos, negsuc, Bool, true, false, not, cond, List, [], ◌∷◌, length, take, drop, pred, Option, Some, None, is_some, inl, inr, refl, sym, ap, ◌∙◌, eqb-true, append-nil, arith}
-use Rattle.std.specs.Option.{IsSome}
-use Rattle.std.proofs.lemmas.Bool.{ne_eqb}
+use Rattle.std.proofs.Common.{◌≡◌, ◌≢◌, ◌==◌, ◌&&◌, ◌++◌, ◌⊎◌, ℕ, ℤ, pos, Bool, true, false, not, cond, List, [], ◌∷◌, length, take, drop, Option, Some, None, inl, inr, refl, sym, ap, ◌∙◌, eqb-true, append-nil}
 use Rattle.std.proofs.lemmas.Bool.Decides.{Decides-int_eq}
 use Rattle.kn_packet.specs.declared.packet.Packet.{Packet}
-use Rattle.kn_packet.specs.declared.packet.Packet.TheVariants.{CloseRsp, Data}
+use Rattle.kn_packet.specs.declared.packet.Packet.TheVariants.{Data}
 use Rattle.kn_tables.specs.Lists.{first_where}
 use Rattle.kn_server_core.proofs.SoundLemmas.{passes}
 use Rattle.kn_server_core.proofs.TunnelTables.{false_unless}
-use Rattle.kn_edge_core.specs.Client.{app_left, app_turned, close_came, data_came, ignored, tunnel_closed}
-use Rattle.kn_edge_core.specs.ClientTables.{app_changed, is_app, is_held_at, is_open_at, lingering, takes_close, takes_data, with_more, without_app}
+use Rattle.kn_edge_core.specs.Client.{app_turned, data_came, ignored}
+use Rattle.kn_edge_core.specs.ClientTables.{app_changed, is_app, is_open_at, with_more}
 use Rattle.kn_edge_core.specs.Steps.{ClientStep}
 use Rattle.kn_edge_core.specs.declared.app.App.{App}
 use Rattle.kn_edge_core.specs.declared.app.AppState.{AppState}
 use Rattle.kn_edge_core.specs.declared.app.AppState.TheVariants as app
 use Rattle.kn_edge_core.specs.declared.client_event.ClientOut.TheVariants.{ToApp}
-use Rattle.kn_edge_core.specs.declared.client_state.ClientState.{ClientState}
 use Rattle.kn_tunnel.specs.Events as event
-use Rattle.kn_tunnel.specs.Kinds.{has, has_left, is_empty, is_opened, is_zero, no_head}
-use Rattle.kn_tunnel.specs.Steps as step
+use Rattle.kn_tunnel.specs.Kinds.{has, is_opened, no_head}
 use Rattle.kn_tunnel.specs.Steps.{Follows, appended}
-use Rattle.kn_tunnel.specs.Tunnel.{Ended, NoHead, Phase, Refused}
-use Rattle.kn_words.specs.Numbers.{is_drawn_number, is_number}
-use Rattle.kn_words.specs.Out.{BytesOut, CloseOut, OtherOut, out_before, out_cons, stream_out_item, stream_out_word}
+use Rattle.kn_tunnel.specs.Tunnel.{Ended, Refused}
+use Rattle.kn_words.specs.Numbers.{is_drawn_number}
+use Rattle.kn_words.specs.Out.{BytesOut, out_cons, stream_out_item, stream_out_word}
 use Rattle.kn_words.proofs.OutOrder.{out_order_first}
-use Rattle.kn_words.proofs.Taken.{out_bytes_ask, out_bytes_taken, out_close_asks, out_close_taken}
+use Rattle.kn_words.proofs.Taken.{out_bytes_ask, out_bytes_taken}
 use Rattle.kn_packets.specs.Keys.{Keys, ListedFits}
 use Rattle.kn_packets.specs.Lifts.{Lifts}
 use Rattle.kn_packets.specs.Moves.{client_stepped, out_is}
-use Rattle.kn_packets.specs.World.{World, listed_phase, tunnel, tunnel_of}
-use Rattle.kn_packets.proofs.ClientLists.{held_is, its_place, left_other, left_own, open_is, turned_other, turned_own}
+use Rattle.kn_packets.specs.World.{World, listed_phase, tunnel_of}
+use Rattle.kn_packets.proofs.ClientLists.{its_place, open_is, turned_other, turned_own}
 use Rattle.kn_packets.proofs.ClientParts.{drains, dry, dry_side, on_same, steps_lift}
 use Rattle.kn_packets.proofs.ClientReplies.{left_is}
 use Rattle.kn_packets.proofs.Fresh.{eqb_refl}
 use Rattle.kn_packets.proofs.Owners.{is_key, pos_one, some_one}
-use Rattle.kn_packets.proofs.Replies.{number_is}
 use Rattle.kn_packets.proofs.Taken.{take_front}
 
 none_is : (xs : List ℕ) → has xs ≡ false → xs ≡ []

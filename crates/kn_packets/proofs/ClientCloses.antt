@@ -1,13 +1,12 @@
 -- A client takes a close, or a packet that means nothing to it.
-use Rattle.std.proofs.Common.{◌≡◌, ◌≢◌, ◌==◌, ◌&&◌, ◌||◌, ◌++◌, ◌⊎◌, ℕ, ℤ, pos, negsuc, suc, Bool, true, false, not, cond, List, [], ◌∷◌, length, pred, Option, Some, None, is_some, inl, inr, refl, sym, ap, ◌∙◌, eqb-true, arith}
-use Rattle.std.proofs.lemmas.Bool.{ne_eqb}
+use Rattle.std.proofs.Common.{◌≡◌, ◌≢◌, ◌==◌, ◌&&◌, ◌⊎◌, ℕ, ℤ, pos, Bool, true, false, not, cond, List, [], ◌∷◌, length, pred, Option, Some, None, inl, inr, refl, sym, ap, ◌∙◌, eqb-true, arith}
 use Rattle.std.proofs.lemmas.Bool.Decides.{Decides-int_eq}
 use Rattle.kn_packet.specs.declared.packet.Packet.{Packet}
-use Rattle.kn_packet.specs.declared.packet.Packet.TheVariants.{CloseReq, CloseRsp, DialCls, DialReq, Drain, Other}
+use Rattle.kn_packet.specs.declared.packet.Packet.TheVariants.{CloseRsp}
 use Rattle.kn_tables.specs.Lists.{first_where}
 use Rattle.kn_server_core.proofs.SoundLemmas.{passes}
 use Rattle.kn_server_core.proofs.TunnelTables.{false_unless}
-use Rattle.kn_edge_core.specs.Client.{app_left, app_turned, close_came, ignored, tunnel_closed}
+use Rattle.kn_edge_core.specs.Client.{app_left, app_turned, close_came, ignored}
 use Rattle.kn_edge_core.specs.ClientTables.{app_changed, is_app, is_held_at, lingering, without_app}
 use Rattle.kn_edge_core.specs.declared.app.App.{App}
 use Rattle.kn_edge_core.specs.declared.app.AppState.{AppState}
@@ -18,13 +17,13 @@ use Rattle.kn_tunnel.specs.Steps as step
 use Rattle.kn_tunnel.specs.Steps.{Follows}
 use Rattle.kn_tunnel.specs.Tunnel.{Ended, Refused}
 use Rattle.kn_words.specs.Numbers.{is_drawn_number, is_number}
-use Rattle.kn_words.specs.Out.{CloseOut, OtherOut, out_before, out_cons, stream_out_item, stream_out_word}
+use Rattle.kn_words.specs.Out.{CloseOut, OtherOut, out_cons, stream_out_item, stream_out_word}
 use Rattle.kn_words.proofs.OutOrder.{out_order_first}
 use Rattle.kn_words.proofs.Taken.{out_close_asks, out_close_taken}
-use Rattle.kn_packets.specs.Keys.{Keys, ListedFits}
+use Rattle.kn_packets.specs.Keys.{Keys}
 use Rattle.kn_packets.specs.Lifts.{Lifts}
 use Rattle.kn_packets.specs.Moves.{client_stepped, out_is}
-use Rattle.kn_packets.specs.World.{World, tunnel, tunnel_of}
+use Rattle.kn_packets.specs.World.{World, tunnel_of}
 use Rattle.kn_packets.proofs.ClientBytes.{fits, found_not, its_app, not_found}
 use Rattle.kn_packets.proofs.ClientLists.{held_is, its_place, left_other, left_own, turned_other, turned_own}
 use Rattle.kn_packets.proofs.ClientParts.{drains, dry, dry_side, on_same, steps_lift}

@@ -1,12 +1,11 @@
 -- The apps of a client, of which one changes or leaves.
-use Rattle.std.proofs.Common.{◌≡◌, ◌==◌, ◌&&◌, ℕ, ℤ, pos, negsuc, Bool, true, false, not, cond, List, [], ◌∷◌, map, Option, Some, None, is_some, inl, inr, refl, sym, ap, ◌∙◌, eqb-true}
-use Rattle.std.specs.Ordering.{int_eq}
+use Rattle.std.proofs.Common.{◌≡◌, ◌==◌, ℕ, ℤ, Bool, true, false, cond, List, [], ◌∷◌, Some, None, refl, sym, ap, ◌∙◌, eqb-true}
 use Rattle.std.proofs.lemmas.Bool.Decides.{Decides-int_eq}
 use Rattle.kn_tables.specs.Lists.{IsRising, first_where, without}
 use Rattle.kn_server_core.proofs.FrontIsolation.{found_by_number}
 use Rattle.kn_server_core.proofs.SoundLemmas.{passes}
 use Rattle.kn_server_core.proofs.TunnelTables.{false_unless}
-use Rattle.kn_edge_core.specs.ClientTables.{app_changed, is_app, is_held_at, is_open_at, takes_close, takes_data}
+use Rattle.kn_edge_core.specs.ClientTables.{app_changed, is_app, takes_close, takes_data}
 use Rattle.kn_edge_core.specs.declared.app.App.{App}
 use Rattle.kn_edge_core.specs.declared.app.AppState.{AppState}
 use Rattle.kn_edge_core.specs.declared.app.AppState.TheVariants as app

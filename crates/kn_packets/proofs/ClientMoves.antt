@@ -1,5 +1,5 @@
 -- A client takes the first packet of its stream, where it is an answer to a dial or bytes.
-use Rattle.std.proofs.Common.{◌≡◌, ◌∷◌, ℕ, ℤ, Bool, true, false, not, List, [], refl}
+use Rattle.std.proofs.Common.{◌≡◌, ◌∷◌, ℕ, ℤ, true, false, not, List, [], refl}
 use Rattle.kn_packet.specs.declared.packet.Packet.{Packet}
 use Rattle.kn_packet.specs.declared.packet.Packet.TheVariants.{CloseReq, CloseRsp, Data, DialCls, DialReq, DialRsp, Drain, Other}
 use Rattle.kn_tables.specs.Lists.{first_where}

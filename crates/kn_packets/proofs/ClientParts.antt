@@ -1,5 +1,5 @@
 -- A client takes a packet of its stream: the apps that it is not for.
-use Rattle.std.proofs.Common.{◌≡◌, ◌==◌, ◌&&◌, ◌||◌, ◌++◌, ℕ, ℤ, pos, negsuc, Bool, true, false, not, cond, List, [], ◌∷◌, Option, Some, None, is_some, inl, inr, refl, sym, ap, ◌∙◌, eqb-true}
+use Rattle.std.proofs.Common.{◌≡◌, ◌==◌, ◌&&◌, ℕ, Bool, true, false, not, List, [], ◌∷◌, Option, Some, None, inl, refl, sym, ap, eqb-true}
 use Rattle.kn_packet.specs.declared.packet.Packet.{Packet}
 use Rattle.kn_tables.specs.Lists.{first_where}
 use Rattle.kn_edge_core.specs.ClientTables.{is_app}
@@ -8,19 +8,19 @@ use Rattle.kn_edge_core.specs.declared.app.App.{App}
 use Rattle.kn_edge_core.specs.declared.app.AppState.{AppState}
 use Rattle.kn_edge_core.specs.declared.app.AppState.TheVariants as app
 use Rattle.kn_tunnel.specs.Facts.{Facts}
-use Rattle.kn_tunnel.specs.Kinds.{has, has_left, implies, is_dialling, is_drawn, is_gone, is_opened, no_entry}
+use Rattle.kn_tunnel.specs.Kinds.{has, has_left, implies, is_drawn, is_gone, no_entry}
 use Rattle.kn_tunnel.specs.Steps.{Follows}
-use Rattle.kn_tunnel.specs.StreamSide.{StreamView, app_bytes, front_fits, in_ok, lost_out, order_out, phase_fits, rows, stream_control, stream_ok, stream_view}
-use Rattle.kn_tunnel.specs.Tunnel.{Dialling, Draining, Ended, Ending, Opened, Phase, Refused, Side, Tunnel}
+use Rattle.kn_tunnel.specs.StreamSide.{app_bytes, front_fits, in_ok, lost_out, order_out, phase_fits, rows, stream_control, stream_ok, stream_view}
+use Rattle.kn_tunnel.specs.Tunnel.{Side, Tunnel}
 use Rattle.kn_words.specs.In.{stream_in_word}
 use Rattle.kn_words.specs.Out.{stream_out_word}
 use Rattle.kn_packets.specs.Keys.{Keys}
 use Rattle.kn_packets.specs.Lifts.{Lifts}
 use Rattle.kn_packets.specs.Moves.{client_stepped, out_is}
 use Rattle.kn_packets.specs.Outputs.{for_app, from_client, queued}
-use Rattle.kn_packets.specs.World.{World, app_phase, listed_phase, phase_in, tunnel, tunnel_of}
+use Rattle.kn_packets.specs.World.{World, app_phase, phase_in, tunnel, tunnel_of}
 use Rattle.kn_packets.proofs.Fresh.{eqb_refl}
-use Rattle.kn_packets.proofs.Taken.{and_first, and_second, not_false}
+use Rattle.kn_packets.proofs.Taken.{and_first, and_second}
 
 none_is : (xs : List ℕ) → not (has xs) ≡ true → xs ≡ []
 none_is [] e = refl

@@ -1,13 +1,12 @@
 -- A client takes an answer to a dial.
-use Rattle.std.proofs.Common.{◌≡◌, ◌≢◌, ◌==◌, ◌&&◌, ◌||◌, ◌++◌, ℕ, ℤ, pos, negsuc, Bool, true, false, not, cond, List, [], ◌∷◌, Option, Some, None, is_some, inl, inr, refl, sym, ap, ◌∙◌, eqb-true, ◌⊎◌}
+use Rattle.std.proofs.Common.{◌≡◌, ◌≢◌, ◌==◌, ◌||◌, ℕ, ℤ, pos, negsuc, Bool, true, false, not, List, [], ◌∷◌, Option, Some, None, inl, inr, refl, sym, ap, ◌∙◌, eqb-true, ◌⊎◌}
 use Rattle.kn_packet.specs.declared.packet.Packet.{Packet}
 use Rattle.kn_packet.specs.declared.packet.Packet.TheVariants.{CloseReq, DialRsp}
 use Rattle.kn_tables.specs.Lists.{first_where}
 use Rattle.kn_server_core.proofs.TunnelTables.{false_unless}
 use Rattle.kn_server_core.specs.Isolation.{Each}
-use Rattle.kn_edge_core.specs.Client.{app_left, app_turned, dial_answered, ignored, reply_by_state, reply_came, stray_reply, told}
+use Rattle.kn_edge_core.specs.Client.{app_left, app_turned, ignored, reply_by_state, reply_came, told}
 use Rattle.kn_edge_core.specs.ClientTables.{app_at, app_changed, is_app, opened, without_app}
-use Rattle.kn_edge_core.specs.Steps.{ClientStep}
 use Rattle.kn_edge_core.specs.declared.app.App.{App}
 use Rattle.kn_edge_core.specs.declared.app.AppState.{AppState}
 use Rattle.kn_edge_core.specs.declared.app.AppState.TheVariants as app
@@ -27,7 +26,7 @@ use Rattle.kn_packets.specs.Keys.{AnswerFits, Keys}
 use Rattle.kn_packets.specs.Lifts.{Lifts}
 use Rattle.kn_packets.specs.Moves.{client_stepped, out_is}
 use Rattle.kn_packets.specs.Outputs.{queued}
-use Rattle.kn_packets.specs.World.{World, phase_in, tunnel, tunnel_of}
+use Rattle.kn_packets.specs.World.{World, tunnel_of}
 use Rattle.kn_packets.proofs.ClientLists.{its_number, left_other, left_own, turned_other, turned_own}
 use Rattle.kn_packets.proofs.ClientParts.{drains, dry, dry_side, on_same, steps_lift}
 use Rattle.kn_packets.proofs.Fresh.{eqb_refl}

@@ -1,24 +1,24 @@
 -- What happens at a CONNECT connection's far end, and what an end drops of a list whose sender lost it.
-use Rattle.std.proofs.Common.{◌≡◌, ◌==◌, ◌&&◌, ◌||◌, ◌++◌, ℕ, ℤ, pos, Bool, true, false, not, cond, List, [], ◌∷◌, length, take, drop, pred, Option, Some, None, inl, inr, refl, sym, ap, ◌∙◌, eqb-true, subst, append-nil}
+use Rattle.std.proofs.Common.{◌≡◌, ◌==◌, ◌&&◌, ℕ, Bool, true, false, not, List, [], ◌∷◌, length, take, drop, Option, Some, None, inl, inr, refl, sym, ap, ◌∙◌, eqb-true, subst, append-nil}
 use Rattle.kn_packet.specs.declared.packet.Packet.{Packet}
 use Rattle.kn_packet.specs.declared.packet.Packet.TheVariants.{CloseReq, CloseRsp, Data, DialCls, DialReq, DialRsp, Drain, Other}
 use Rattle.kn_tunnel.specs.Cuts.{IsCutIn}
 use Rattle.kn_tunnel.specs.Events as event
-use Rattle.kn_tunnel.specs.Kinds.{has, is_empty, is_gone, is_refusal, is_reply, is_zero, no_head}
+use Rattle.kn_tunnel.specs.Kinds.{has, is_empty, is_refusal, is_reply, is_zero, no_head}
 use Rattle.kn_tunnel.specs.Steps as step
 use Rattle.kn_tunnel.specs.Steps.{Follows}
-use Rattle.kn_tunnel.specs.Tunnel.{NoHead, Outward, Tunnel}
+use Rattle.kn_tunnel.specs.Tunnel.{NoHead}
 use Rattle.kn_words.specs.In.{in_ordered, stream_in_item, stream_in_word}
-use Rattle.kn_words.specs.Out.{BytesOut, CloseOut, OtherOut, OutItem, RefusalOut, ReplyOut, connect_out_item, out_before, out_cons, out_of, out_ordered, stream_out_item, stream_out_word}
+use Rattle.kn_words.specs.Out.{BytesOut, CloseOut, OtherOut, RefusalOut, ReplyOut, connect_out_item, out_before, out_cons, stream_out_item, stream_out_word}
 use Rattle.kn_words.proofs.InOrder.{in_prefix_cut}
 use Rattle.kn_words.proofs.OutOrder.{out_order_first}
-use Rattle.kn_words.proofs.Taken.{out_bytes_ask, out_bytes_taken, out_close_asks, out_close_taken, out_refusal_asks, out_refusal_taken, out_reply_asks, out_reply_taken}
+use Rattle.kn_words.proofs.Taken.{out_bytes_ask, out_bytes_taken, out_close_asks, out_refusal_asks, out_reply_asks, out_reply_taken}
 use Rattle.kn_packets.specs.Keys.{Keys}
 use Rattle.kn_packets.specs.Lifts.{Lifts}
-use Rattle.kn_packets.specs.Moves.{AppSends, ConnectComes, ConnectLeaves, ConnectTakes, DropsIn, DropsOut, IsFrontOf, May, StreamBegins, after, connect_gets, connect_leaves, connect_takes, in_is, out_is, takes_connect}
-use Rattle.kn_packets.specs.World.{World, WorldStream, tunnel, tunnel_of}
+use Rattle.kn_packets.specs.Moves.{AppSends, ConnectComes, ConnectLeaves, ConnectTakes, DropsIn, DropsOut, May, StreamBegins, after, connect_gets, connect_leaves, connect_takes, out_is, takes_connect}
+use Rattle.kn_packets.specs.World.{World, tunnel, tunnel_of}
 use Rattle.kn_packets.proofs.Fresh.{eqb_refl}
-use Rattle.kn_packets.proofs.Taken.{and_both, and_first, and_second, not_false, take_front}
+use Rattle.kn_packets.proofs.Taken.{and_first, and_second, not_false, take_front}
 use Rattle.kn_packets.proofs.Takes.{nothing_happens}
 
 -- ---- what is dropped

@@ -1,20 +1,19 @@
 -- The server loses a front: its awaited dials are forgotten, and the agents of its open tunnels are asked to close them.
-use Rattle.std.proofs.Common.{◌≡◌, ◌==◌, ◌&&◌, ◌||◌, ◌++◌, ◌⊎◌, ℕ, ℤ, pos, Bool, true, false, not, cond, List, [], ◌∷◌, filter, map, Option, Some, None, is_some, inl, inr, refl, sym, ap, ◌∙◌, eqb-true, subst}
+use Rattle.std.proofs.Common.{◌≡◌, ◌==◌, ◌++◌, ℕ, pos, Bool, true, false, not, cond, List, [], ◌∷◌, filter, map, Option, Some, None, inl, inr, refl, sym, ap, ◌∙◌, eqb-true, subst}
 use Rattle.kn_packet.specs.declared.packet.Packet.{Packet}
 use Rattle.kn_packet.specs.declared.packet.Packet.TheVariants.{CloseReq}
 use Rattle.kn_tables.specs.Lists.{first_where}
 use Rattle.kn_tables.specs.Awaiting.{is_dial, is_of_front}
-use Rattle.kn_tables.specs.Holding.{closed_entry, has_front, is_held_by, is_held_dial}
+use Rattle.kn_tables.specs.Holding.{has_front, is_held_by, is_held_dial}
 use Rattle.kn_tables.specs.declared.awaited_entry.AwaitedEntry.{AwaitedEntry}
 use Rattle.kn_tables.specs.declared.held_entry.HeldEntry.{HeldEntry}
 use Rattle.kn_tables.specs.declared.held_entry.HeldState.{HeldState}
 use Rattle.kn_tables.specs.declared.held_entry.HeldState.TheVariants.{Closing, Open}
-use Rattle.kn_server_core.specs.FrontLists.{is_up}
 use Rattle.kn_server_core.specs.Isolation.{Each}
-use Rattle.kn_server_core.specs.Server.{all_asked, asked_at_loss, front_left, front_lost, ignored}
+use Rattle.kn_server_core.specs.Server.{all_asked, asked_at_loss, front_left, front_lost}
 use Rattle.kn_server_core.proofs.EntryLemmas.{each_kept, each_more}
 use Rattle.kn_server_core.proofs.OrderLemmas.{rising_filter}
-use Rattle.kn_server_core.proofs.SoundLemmas.{none_mapped, passes}
+use Rattle.kn_server_core.proofs.SoundLemmas.{none_mapped}
 use Rattle.kn_server_core.proofs.TunnelTables.{false_unless, left_dial, left_other}
 use Rattle.kn_edge_core.specs.declared.agent_state.AgentState.{AgentState}
 use Rattle.kn_tunnel.specs.Cuts.{IsCutOut}
@@ -23,7 +22,7 @@ use Rattle.kn_tunnel.specs.Kinds.{is_gone}
 use Rattle.kn_tunnel.specs.Steps as step
 use Rattle.kn_tunnel.specs.Steps.{Follows}
 use Rattle.kn_tunnel.specs.Tunnel.{Gone}
-use Rattle.kn_words.specs.Down.{CloseDown, OtherDown, down_item, down_of, down_word, has_request, is_request}
+use Rattle.kn_words.specs.Down.{OtherDown, down_item, has_request}
 use Rattle.kn_words.specs.Numbers.{is_drawn_number}
 use Rattle.kn_words.specs.Out.{out_ordered, stream_out_item, stream_out_word}
 use Rattle.kn_words.proofs.OutOrder.{out_prefix_cut}
@@ -31,7 +30,7 @@ use Rattle.kn_packets.specs.Keys.{Keys}
 use Rattle.kn_packets.specs.Lifts.{Lifts}
 use Rattle.kn_packets.specs.Moves.{IsFrontOf, front_is, in_is, out_is, served}
 use Rattle.kn_packets.specs.Outputs.{asks, for_link, more_if, queued}
-use Rattle.kn_packets.specs.World.{World, entry_at, entry_of, far_of, held_entry, tunnel, tunnel_of}
+use Rattle.kn_packets.specs.World.{World, far_of, tunnel_of}
 use Rattle.kn_packets.proofs.DataParts.{ToLinks}
 use Rattle.kn_packets.proofs.Fresh.{eqb_refl}
 use Rattle.kn_packets.proofs.Owners.{is_key, key_is, pos_one}

@@ -1,10 +1,9 @@
 -- The server loses a link: its awaited dials are refused, its tunnels end, and each front is told of its own.
-use Rattle.std.proofs.Common.{◌≡◌, ◌==◌, ◌&&◌, ◌||◌, ◌++◌, ◌⊎◌, ℕ, ℤ, pos, Bool, true, false, not, cond, List, [], ◌∷◌, filter, Option, Some, None, is_some, inl, inr, refl, sym, ap, ◌∙◌, eqb-true, subst}
+use Rattle.std.proofs.Common.{◌≡◌, ◌==◌, ◌&&◌, ◌++◌, ℕ, pos, Bool, true, false, not, cond, List, [], ◌∷◌, filter, Option, Some, None, inl, inr, refl, sym, ap, ◌∙◌, eqb-true, subst}
 use Rattle.std.specs.Prelude.{codes}
 use Rattle.std.specs.Ordering.{int_cmp, is_lt}
 use Rattle.kn_packet.specs.declared.packet.Packet.{Packet}
 use Rattle.kn_packet.specs.declared.packet.Packet.TheVariants.{CloseRsp, DialRsp}
-use Rattle.kn_route.specs.LinkLists.{has_link}
 use Rattle.kn_tables.specs.Lists.{first_where}
 use Rattle.kn_tables.specs.Awaiting.{is_dial, is_of_link}
 use Rattle.kn_tables.specs.Holding.{by_connect_id, in_order, is_held_dial, is_held_on}
@@ -13,9 +12,8 @@ use Rattle.kn_tables.specs.declared.held_entry.HeldEntry.{HeldEntry}
 use Rattle.kn_tables.specs.declared.held_entry.HeldState.{HeldState}
 use Rattle.kn_tables.specs.declared.held_entry.HeldState.TheVariants.{Closing, Open}
 use Rattle.kn_server_core.specs.declared.event.ServerOut.{ServerOut}
-use Rattle.kn_server_core.specs.declared.event.ServerOut.TheVariants.{CutLink, Made, ToFront, ToLink}
 use Rattle.kn_server_core.specs.Isolation.{Each}
-use Rattle.kn_server_core.specs.Server.{all_awaited_lost, all_held_lost, ended_to, held_lost, link_lost}
+use Rattle.kn_server_core.specs.Server.{all_awaited_lost, all_held_lost, ended_to, link_lost}
 use Rattle.kn_server_core.proofs.EntryLemmas.{each_kept, each_more}
 use Rattle.kn_server_core.proofs.OrderLemmas.{rising_filter}
 use Rattle.kn_server_core.proofs.SoundLemmas.{passes}
@@ -28,20 +26,20 @@ use Rattle.kn_edge_core.specs.declared.dial.Dial.{Dial}
 use Rattle.kn_edge_core.specs.AgentTables.{connection_at}
 use Rattle.kn_tunnel.specs.Cuts.{IsCutDown}
 use Rattle.kn_tunnel.specs.Events as event
-use Rattle.kn_tunnel.specs.Kinds.{is_asked, is_gone, is_present}
+use Rattle.kn_tunnel.specs.Kinds.{is_asked, is_gone}
 use Rattle.kn_tunnel.specs.Steps as step
 use Rattle.kn_tunnel.specs.Steps.{Follows}
-use Rattle.kn_tunnel.specs.Tunnel.{Far, Gone, Left, NoEntry, Phase}
+use Rattle.kn_tunnel.specs.Tunnel.{Gone, Left, NoEntry}
 use Rattle.kn_words.specs.Down.{down_item, down_ordered, down_word, has_request}
 use Rattle.kn_words.specs.Numbers.{is_drawn_number}
-use Rattle.kn_words.specs.Out.{CloseOut, stream_out_item, stream_out_word}
+use Rattle.kn_words.specs.Out.{CloseOut, stream_out_item}
 use Rattle.kn_words.proofs.DownOrder.{down_prefix_cut}
 use Rattle.kn_words.proofs.Requests.{request_cut}
 use Rattle.kn_packets.specs.Keys.{Keys}
 use Rattle.kn_packets.specs.Lifts.{Lifts}
-use Rattle.kn_packets.specs.Moves.{IsFrontOf, down_is, link_is, new_dial, served, up_is}
-use Rattle.kn_packets.specs.Outputs.{all_answered, all_finish, asks, dial_made, for_front, for_link, is_cut, more_if, queued}
-use Rattle.kn_packets.specs.World.{World, WorldDial, connection_far, dest_far, dial_far, entry_at, entry_of, far_of, has_random, held_entry, phase_of, tunnel, tunnel_of}
+use Rattle.kn_packets.specs.Moves.{IsFrontOf, down_is, link_is, served, up_is}
+use Rattle.kn_packets.specs.Outputs.{asks, for_front, more_if}
+use Rattle.kn_packets.specs.World.{World, connection_far, dest_far, dial_far, entry_of, far_of, has_random, held_entry, tunnel_of}
 use Rattle.kn_packets.proofs.DataParts.{ToFronts}
 use Rattle.kn_packets.proofs.Fresh.{eqb_refl}
 use Rattle.kn_packets.proofs.Owners.{a_client, cond_same}
@@ -49,7 +47,7 @@ use Rattle.kn_packets.proofs.Queues.{out_closed, out_refused}
 use Rattle.kn_packets.proofs.Replies.{not_asked}
 use Rattle.kn_packets.proofs.TakesClose.{ended_item, ended_other}
 use Rattle.kn_packets.proofs.TakesRequest.{not_connect, phase_refused, refusal_not, refusal_own}
-use Rattle.kn_packets.proofs.Told.{IsOne, NotFor, each_both, each_its, kept_where, none_where, one_answer, one_before, one_behind, one_finish, one_of, one_word, quiet_answer, quiet_finish, quiet_word}
+use Rattle.kn_packets.proofs.Told.{IsOne, NotFor, each_its, kept_where, none_where, one_answer, one_finish, one_of, one_word, quiet_answer, quiet_finish, quiet_word}
 
 -- ---- entries by rising connectID
 each_placed : (P : HeldEntry → Type 0) (e : HeldEntry) (xs : List HeldEntry) → P e → Each P xs → Each P (in_order e xs)

@@ -1,13 +1,12 @@
 -- What many entries tell one app, or one agent: at most one of them is its own.
-use Rattle.std.proofs.Common.{◌≡◌, ◌==◌, ◌&&◌, ◌||◌, ◌++◌, ◌⊎◌, ℕ, ℤ, pos, Bool, true, false, not, cond, List, [], ◌∷◌, filter, Option, Some, None, inl, inr, refl, sym, ap, ◌∙◌, eqb-true}
+use Rattle.std.proofs.Common.{◌≡◌, ◌==◌, ◌&&◌, ◌||◌, ◌++◌, ◌⊎◌, ℕ, Bool, true, false, cond, List, [], ◌∷◌, filter, Option, Some, None, inl, inr, refl, sym, ap, ◌∙◌, eqb-true}
 use Rattle.kn_packet.specs.declared.packet.Packet.{Packet}
 use Rattle.kn_tables.specs.Lists.{AreAbove, IsRising, first_where}
 use Rattle.kn_server_core.specs.Isolation.{Each}
-use Rattle.kn_server_core.proofs.EntryLemmas.{each_more}
 use Rattle.kn_server_core.proofs.LossLemmas.{not_equal}
 use Rattle.kn_tunnel.specs.Tunnel.{Phase}
 use Rattle.kn_words.specs.Down.{DownItem, OtherDown, down_of, down_snoc}
-use Rattle.kn_words.specs.Out.{OtherOut, OutItem, out_of, out_snoc, stream_out_item, stream_out_word}
+use Rattle.kn_words.specs.Out.{OtherOut, out_snoc, stream_out_item, stream_out_word}
 use Rattle.kn_words.proofs.Ends.{down_append, out_append}
 use Rattle.kn_packets.specs.Outputs.{all_answered, all_finish, answered, finishes, queued}
 use Rattle.kn_packets.proofs.Fresh.{above, eqb_refl}

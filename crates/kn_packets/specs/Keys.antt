@@ -1,5 +1,5 @@
 -- Which tunnel a number is of: the facts on keys that tie the tables of the three ends, the numbers in flight and what the world notes together.
-use Rattle.std.specs.Prelude.{◌≡◌, ◌≢◌, ◌<◌, ◌≤◌, ◌+◌, ℕ, ℤ, suc, pos, negsuc, Bool, true, false, List, [], ◌∷◌, length, Option, None, Some}
+use Rattle.std.specs.Prelude.{◌≡◌, ◌≢◌, ◌<◌, ◌≤◌, ◌+◌, ℕ, ℤ, suc, pos, negsuc, Bool, true, false, List, [], ◌∷◌, length, None, Some}
 use Rattle.kn_packet.specs.declared.packet.Packet.{Packet}
 use Rattle.kn_packet.specs.declared.packet.Packet.TheVariants.{CloseReq, CloseRsp, Data, DialCls, DialReq, DialRsp, Drain, Other}
 use Rattle.kn_route.specs.LinkLists.{has_link}
@@ -13,7 +13,6 @@ use Rattle.kn_server_core.specs.Isolation.{Each, IsOrderly}
 use Rattle.kn_edge_core.specs.AgentTables.{is_connection}
 use Rattle.kn_edge_core.specs.ClientTables.{is_app}
 use Rattle.kn_edge_core.specs.declared.app.App.{App}
-use Rattle.kn_edge_core.specs.declared.app.AppState.{AppState}
 use Rattle.kn_edge_core.specs.declared.app.AppState.TheVariants as app
 use Rattle.kn_edge_core.specs.declared.connection.Connection.{Connection}
 use Rattle.kn_edge_core.specs.declared.dial.Dial.{Dial}
@@ -26,7 +25,7 @@ use Rattle.kn_words.specs.Out.{out_ordered, stream_out_item}
 use Rattle.kn_words.specs.Up.{up_item, up_ordered}
 use Rattle.kn_packets.specs.Moves.{is_of_client}
 use Rattle.kn_packets.specs.Outputs.{asks}
-use Rattle.kn_packets.specs.World.{World, WorldApp, WorldDial, has_random, tunnel}
+use Rattle.kn_packets.specs.World.{World, has_random, tunnel}
 
 -- ---- the server
 -- an awaited dial is of its link, and of the app that asked for it and no other
