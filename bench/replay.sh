@@ -1,7 +1,7 @@
 #!/bin/sh
 # bench/replay.sh: how long `kn replay default` takes for scripts of 100 and of 600 apps with every kind of close,
 # and the ratio of what an event costs in the two; and how long it takes for the longest script there may be, of
-# 10,000 lines. Each time is the least of three runs, without the start of the program.
+# 10,000 lines. Each time is that of the fastest runs, without the start of the program.
 top=$(cd "$(dirname "$0")/.." && pwd) || exit 1
 program=$top/crates/kn/out/kn
 if [ ! -x "$program" ]; then
@@ -57,33 +57,32 @@ script() {
         }'
 }
 
-# Microseconds that so many runs over a script take, the least of three times.
+# Nanoseconds that a run over a script takes: of five times so many runs, the fastest.
 least() {
     best=
-    for _ in 1 2 3; do
+    for _ in 1 2 3 4 5; do
         start=$(date +%s%N)
         for _ in $(seq "$2"); do "$program" replay default <"$1" >"$tmp/report" || exit 1; done
-        taken=$((($(date +%s%N) - start) / 1000))
+        taken=$((($(date +%s%N) - start) / $2))
         if [ -z "$best" ] || [ "$taken" -lt "$best" ]; then best=$taken; fi
     done
     echo "$best"
 }
 
 : >"$tmp/none"
-runs=20
-start=$(least "$tmp/none" $runs) || exit 1
+begin=$(least "$tmp/none" 200) || exit 1
 
-# Nanoseconds an event costs in the script of so many apps; the time of one run is told on the way.
+# Nanoseconds an event costs in the script of so many apps and lines; the time of one run is told on the way.
 event_cost() {
     script "$1" "$2" >"$tmp/script"
-    taken=$(least "$tmp/script" $runs) || exit 1
+    taken=$(least "$tmp/script" "$3") || exit 1
     events=$(wc -l <"$tmp/script")
-    echo "$1 apps, $events lines: $(((taken - start) / runs)) microseconds" >&2
-    echo $(((taken - start) * 1000 / runs / events))
+    echo "$1 apps, $events lines: $(((taken - begin) / 1000)) microseconds" >&2
+    echo $(((taken - begin) / events))
 }
 
-few=$(event_cost 100 0) || exit 1
-many=$(event_cost 600 0) || exit 1
-long=$(event_cost 600 10000) || exit 1
+few=$(event_cost 100 0 200) || exit 1
+many=$(event_cost 600 0 20) || exit 1
+long=$(event_cost 600 10000 20) || exit 1
 echo "an event: $few ns at 100 apps, $many ns at 600, ratio $((many * 100 / few))/100; $long ns in 10,000 lines"
 tail -n 2 "$tmp/report"
