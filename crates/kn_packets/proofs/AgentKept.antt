@@ -123,9 +123,10 @@ module _ (w : World) (l : ℕ) (s : AgentStep) (U D : ℕ → List Packet) (S : 
   server_kept : ServerKeys next
   server_kept = record {
     orderly = keys.server.orderly;
+    from_one = keys.server.from_one;
     links_up = keys.server.links_up;
     fronts_up = keys.server.fronts_up;
-    awaited = λ d e h. let f = keys.server.awaited d e h in record { link = f.link; front = f.front; random = f.random; app = f.app };
+    awaited = λ d e h. let f = keys.server.awaited d e h in record { link = f.link; front = f.front; random = f.random; app = f.app; has_app = f.has_app };
     held = λ d e h. let f = keys.server.held d e h in record { link = f.link; cid = f.cid; drawn = cid_same d ∙ f.drawn; named = f.named; front = f.front };
     dials_older = keys.server.dials_older;
     ups_older = λ i. ups (LinkOlder w.server.next_dial) i (keys.server.ups_older i) (λ e. each_as (Told w l) (LinkOlder w.server.next_dial) (λ p h. h.0) (from_agent s.outs) calm.told);
@@ -208,13 +209,13 @@ module _ (w : World) (l : ℕ) (s : AgentStep) (U D : ℕ → List Packet) (S : 
   in_request_kept f (Data c error bytes) h = tt
   in_request_kept f (CloseReq c) h = tt
   in_request_kept f (CloseRsp error c) h = tt
-  in_request_kept f (DialCls random) h = tt
+  in_request_kept f (DialCls random) h = h
   in_request_kept f Drain h = tt
   in_request_kept f (Other number) h = tt
 
   answer_kept : (f : ℕ) (p : Packet) → AnswerFits w f p → AnswerFits next f p
   answer_kept f (DialRsp [] c r) h = h
-  answer_kept f (DialRsp (x ∷ xs) c r) h = tt
+  answer_kept f (DialRsp (x ∷ xs) c r) h = h
   answer_kept f (DialReq protocol address random) h = tt
   answer_kept f (Data c error bytes) h = tt
   answer_kept f (CloseReq c) h = tt
@@ -226,6 +227,7 @@ module _ (w : World) (l : ℕ) (s : AgentStep) (U D : ℕ → List Packet) (S : 
   clients_kept : ClientKeys next
   clients_kept = record {
     begun = keys.clients.begun;
+    unfinished = keys.clients.unfinished;
     alone = keys.clients.alone;
     apart = keys.clients.apart;
     connect_one = keys.clients.connect_one;
@@ -235,6 +237,7 @@ module _ (w : World) (l : ℕ) (s : AgentStep) (U D : ℕ → List Packet) (S : 
     answers = λ f c. each_as (AnswerFits w f) (AnswerFits next f) (answer_kept f) (w.streams f).down (keys.clients.answers f c);
     known = keys.clients.known;
     apps_rise = keys.clients.apps_rise;
+    tops = keys.clients.tops;
     listed = λ k x came c f. let h = keys.clients.listed k x came c f in record { unwritten = h.unwritten; dial = h.dial };
     left = keys.clients.left;
     dials_once = keys.clients.dials_once;

@@ -85,7 +85,7 @@ module _ (w : World) (l : ℕ) (keys : Keys w) (there : not (w.agents l).lost �
   abbrev reply : Packet
   reply = DialRsp [] (pos (w.agents l).next_connect_id) x.random
 
-  it : Made w l x
+  pub it : Made w l x
   it = each_found (Made w l) (is_dial x.ticket) (w.agents l).dials x (made w l keys) at
 
   abbrev i : ℕ
@@ -98,7 +98,7 @@ module _ (w : World) (l : ℕ) (keys : Keys w) (there : not (w.agents l).lost �
   is_own d h = sym (eqb-true i d (ap (is_number d) (sym it.0.asked) ∙ h))
 
   -- ---- the connectIDs
-  drawn_kept : (d c : ℕ) → (w.dials d).cid ≡ Some c → (next.dials d).cid ≡ Some c
+  pub drawn_kept : (d c : ℕ) → (w.dials d).cid ≡ Some c → (next.dials d).cid ≡ Some c
   drawn_kept d c h = here ((w.dials d).link == l) (is_number d x.random) refl
     where
       here : (b e : Bool) → is_number d x.random ≡ e → cond b (cond e (Some c0) (w.dials d).cid) (w.dials d).cid ≡ Some c
@@ -124,7 +124,7 @@ module _ (w : World) (l : ℕ) (keys : Keys w) (there : not (w.agents l).lost �
       here true = rw other h
       here false = h
 
-  drawn_i : (next.dials i).cid ≡ Some c0
+  pub drawn_i : (next.dials i).cid ≡ Some c0
   drawn_i =
       let at_l : ((w.dials i).link == l) ≡ true = ap (λ j. j == l) it.0.on ∙ eqb_refl l in
       rw (at_l, own_i) refl
@@ -229,9 +229,10 @@ module _ (w : World) (l : ℕ) (keys : Keys w) (there : not (w.agents l).lost �
   server_kept : ServerKeys next
   server_kept = record {
     orderly = keys.server.orderly;
+    from_one = keys.server.from_one;
     links_up = keys.server.links_up;
     fronts_up = keys.server.fronts_up;
-    awaited = λ d e h. let f = keys.server.awaited d e h in record { link = f.link; front = f.front; random = f.random; app = f.app };
+    awaited = λ d e h. let f = keys.server.awaited d e h in record { link = f.link; front = f.front; random = f.random; app = f.app; has_app = f.has_app };
     held = λ d e h. let f = keys.server.held d e h in record { link = f.link; cid = f.cid; drawn = drawn_kept d f.cid f.drawn; named = f.named; front = f.front };
     dials_older = keys.server.dials_older;
     ups_older = λ j. ups (LinkOlder w.server.next_dial) j (keys.server.ups_older j) (λ e. it.1);
@@ -353,13 +354,13 @@ module _ (w : World) (l : ℕ) (keys : Keys w) (there : not (w.agents l).lost �
   in_request_kept f (Data c error bytes) h = tt
   in_request_kept f (CloseReq c) h = tt
   in_request_kept f (CloseRsp error c) h = tt
-  in_request_kept f (DialCls random) h = tt
+  in_request_kept f (DialCls random) h = h
   in_request_kept f Drain h = tt
   in_request_kept f (Other number) h = tt
 
   answer_kept : (f : ℕ) (p : Packet) → AnswerFits w f p → AnswerFits next f p
   answer_kept f (DialRsp [] c r) h = h
-  answer_kept f (DialRsp (y ∷ ys) c r) h = tt
+  answer_kept f (DialRsp (y ∷ ys) c r) h = h
   answer_kept f (DialReq protocol address random) h = tt
   answer_kept f (Data c error bytes) h = tt
   answer_kept f (CloseReq c) h = tt
@@ -371,6 +372,7 @@ module _ (w : World) (l : ℕ) (keys : Keys w) (there : not (w.agents l).lost �
   clients_kept : ClientKeys next
   clients_kept = record {
     begun = keys.clients.begun;
+    unfinished = keys.clients.unfinished;
     alone = keys.clients.alone;
     apart = keys.clients.apart;
     connect_one = keys.clients.connect_one;
@@ -380,6 +382,7 @@ module _ (w : World) (l : ℕ) (keys : Keys w) (there : not (w.agents l).lost �
     answers = λ f c. each_as (AnswerFits w f) (AnswerFits next f) (answer_kept f) (w.streams f).down (keys.clients.answers f c);
     known = keys.clients.known;
     apps_rise = keys.clients.apps_rise;
+    tops = keys.clients.tops;
     listed = λ k y came c f. let h = keys.clients.listed k y came c f in record { unwritten = h.unwritten; dial = h.dial };
     left = keys.clients.left;
     dials_once = keys.clients.dials_once;

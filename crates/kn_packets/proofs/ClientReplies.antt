@@ -84,7 +84,7 @@ module _ (w : World) (f : ℕ) (error : List ℕ) (z random : ℤ) (rest : List 
     its_place n e = ap (λ i. first_where (is_app i) state.apps) (own_number n e) ∙ (named_app random a state.apps at).1
 
 module _ (w : World) (f : ℕ) (z random : ℤ) (rest : List Packet) (keys : Keys w) (client : (w.streams f).connect ≡ false) (there : (w.streams f).client ≡ true) (first : (w.streams f).down ≡ DialRsp [] z random ∷ rest) where
-  reply_fits : (k : ℕ) (D : Option ℕ) → (w.apps k).came ≡ true → (w.apps k).stream ≡ f → (w.apps k).dial ≡ D → is_number (w.apps k).number random ≡ true → is_reply (stream_out_word false (w.apps k).number D (w.streams f).down).head ≡ true
+  pub reply_fits : (k : ℕ) (D : Option ℕ) → (w.apps k).came ≡ true → (w.apps k).stream ≡ f → (w.apps k).dial ≡ D → is_number (w.apps k).number random ≡ true → is_reply (stream_out_word false (w.apps k).number D (w.streams f).down).head ≡ true
   reply_fits k D came on de e = rw (first, e) (out_reply_asks (stream_out_word false (w.apps k).number D rest) (rw e at (before w f [] z random rest keys client there first k D came on de)))
 
   reply_word : (k : ℕ) (D : Option ℕ) → (w.apps k).came ≡ true → (w.apps k).stream ≡ f → (w.apps k).dial ≡ D → is_number (w.apps k).number random ≡ true → stream_out_word false (w.apps k).number D rest ≡ record (stream_out_word false (w.apps k).number D (w.streams f).down) { head = NoHead }
@@ -124,7 +124,7 @@ module _ (w : World) (f : ℕ) (z random : ℤ) (rest : List Packet) (keys : Key
   strays none = steps_lift w f rest keys client there (told (w.clients (w.streams f).owner) (ToServer (CloseReq z) ∷ [])) (λ k came on. own k came on (is_number (w.apps k).number random) refl (w.apps k).dial refl) (λ k L came cf ow lost le. (le, λ xs. refl))
     where
       key : (k : ℕ) → (w.apps k).came ≡ true → (w.apps k).stream ≡ f → is_drawn_number (w.apps k).dial z ≡ is_number (w.apps k).number random
-      key k came on = let all : Each (AnswerFits w f) (DialRsp [] z random ∷ rest) = rw first at (keys.clients.answers f client) in all.0 k came on
+      key k came on = let all : Each (AnswerFits w f) (DialRsp [] z random ∷ rest) = rw first at (keys.clients.answers f client) in all.0.1 k came on
 
       its_dry : (k : ℕ) → (w.apps k).came ≡ true → (w.apps k).stream ≡ f → first_where (is_app (w.apps k).number) (w.clients (w.streams f).owner).apps ≡ None → (w.apps k).side.unwritten ≡ []
       its_dry k came on at = dry w f rest keys client there (ignored (w.clients (w.streams f).owner)) k came (rw on client) (ap (λ i. (w.streams i).owner) on) at

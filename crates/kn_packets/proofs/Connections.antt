@@ -51,7 +51,7 @@ app_sends_lifts w a bytes k came = by_app (k == a) refl (w.apps k).dial
     by_app false is (Some d) = inl (rw is refl)
 
 -- ---- a stream or a CONNECT connection begins: no app is on it yet
-off_new : (w : World) (f k : ℕ) → Keys w → (w.apps k).came ≡ true → (w.streams f).begun ≡ false → ((w.apps k).stream == f) ≡ false
+pub off_new : (w : World) (f k : ℕ) → Keys w → (w.apps k).came ≡ true → (w.streams f).begun ≡ false → ((w.apps k).stream == f) ≡ false
 off_new w f k keys came fresh = here ((w.apps k).stream == f) refl
   where
     here : (b : Bool) → ((w.apps k).stream == f) ≡ b → b ≡ false

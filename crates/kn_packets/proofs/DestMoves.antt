@@ -49,19 +49,19 @@ sends_lift w e bytes drawn k came = by_dial (w.apps k).dial
     by_dial (Some d) = by_own d (d == e) refl
 
 -- ---- its own tunnel
-all_gone : (m : ℕ) (xs : List ℕ) → m ≡ length xs → drop m xs ≡ []
+pub all_gone : (m : ℕ) (xs : List ℕ) → m ≡ length xs → drop m xs ≡ []
 all_gone zero [] e = refl
 all_gone (suc m) [] e = refl
 all_gone zero (x ∷ xs) e = absurd cc
 all_gone (suc m) (x ∷ xs) e = all_gone m xs cc
 
-some_left : (m : ℕ) (xs : List ℕ) → m ≤ length xs → (length xs ≡ m → ⊥) → has (drop m xs) ≡ true
+pub some_left : (m : ℕ) (xs : List ℕ) → m ≤ length xs → (length xs ≡ m → ⊥) → has (drop m xs) ≡ true
 some_left zero [] h e = absurd (e refl)
 some_left (suc m) [] h e = absurd (omega (arith, h))
 some_left zero (x ∷ xs) h e = refl
 some_left (suc m) (x ∷ xs) h e = some_left m xs (omega (arith, h)) (λ f. e (ap suc f))
 
-not_same : (a b : ℕ) → (a == b) ≡ false → a ≡ b → ⊥
+pub not_same : (a b : ℕ) → (a == b) ≡ false → a ≡ b → ⊥
 not_same a b h e = let yes : (a == b) ≡ true = rw e (eqb_refl b) in cc
 
 module _ (w : World) (k d n : ℕ) (side : Side) (a : AgentState) (link : WorldLink) (there : not a.lost ≡ true) (x : Connection) (at : first_where (is_connection n) a.connections ≡ Some x) (number : x.connect_id ≡ n) where

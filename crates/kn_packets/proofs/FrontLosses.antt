@@ -48,7 +48,7 @@ links_asked (e ∷ es) = here e.state (links_asked es)
     here Closing more = more
     here Open more = record { front = more.front; cut = more.cut; made = more.made; new = more.new }
 
-front_is_some : (o : Option ℕ) (f : ℕ) → has_front o f ≡ true → o ≡ Some f
+pub front_is_some : (o : Option ℕ) (f : ℕ) → has_front o f ≡ true → o ≡ Some f
 front_is_some None f e = absurd cc
 front_is_some (Some g) f e = ap Some (eqb-true g f e)
 
@@ -59,7 +59,7 @@ module _ (w : World) (f : ℕ) (left : List Packet) (keys : Keys w) (front_of : 
   abbrev lost : World
   lost = served (pos 0) (front_lost w.server f) cut_off
 
-  abbrev its_held : List HeldEntry
+  abbrev pub its_held : List HeldEntry
   its_held = filter (is_held_by f) w.server.held
 
   all_held : Each (λ (e : HeldEntry). first_where (is_held_dial e.dial) w.server.held ≡ Some e) w.server.held
@@ -68,10 +68,10 @@ module _ (w : World) (f : ℕ) (left : List Packet) (keys : Keys w) (front_of : 
   all_awaited : Each (λ (e : AwaitedEntry). first_where (is_dial e.dial) w.server.awaited ≡ Some e) w.server.awaited
   all_awaited = each_its (λ (e : AwaitedEntry). e.dial) w.server.awaited keys.server.orderly.awaited_rise
 
-  held_its : Each (λ (e : HeldEntry). (is_held_by f e ≡ true) × (first_where (is_held_dial e.dial) w.server.held ≡ Some e)) its_held
+  pub held_its : Each (λ (e : HeldEntry). (is_held_by f e ≡ true) × (first_where (is_held_dial e.dial) w.server.held ≡ Some e)) its_held
   held_its = each_kept (λ (e : HeldEntry). first_where (is_held_dial e.dial) w.server.held ≡ Some e) (is_held_by f) w.server.held all_held
 
-  to_links : ToLinks (all_asked its_held)
+  pub to_links : ToLinks (all_asked its_held)
   to_links = links_asked its_held
 
   some_is : (d : ℕ) (x e : HeldEntry) → first_where (is_held_dial d) w.server.held ≡ Some x → first_where (is_held_dial d) w.server.held ≡ Some e → x ≡ e
@@ -79,7 +79,7 @@ module _ (w : World) (f : ℕ) (left : List Packet) (keys : Keys w) (front_of : 
 
   -- ---- what an agent is told of a dial
   module _ (d : ℕ) where
-    abbrev NotIts : Packet → Type 0
+    abbrev pub NotIts : Packet → Type 0
     NotIts p = down_item (w.dials d).cid p ≡ OtherDown
 
     close_quiet : (e : HeldEntry) → first_where (is_held_dial e.dial) w.server.held ≡ Some e → (e.dial == d) ≡ false → ((w.dials d).link == e.link) ≡ true → NotIts (CloseReq e.connect_id)
@@ -107,7 +107,7 @@ module _ (w : World) (f : ℕ) (left : List Packet) (keys : Keys w) (front_of : 
         by_state Closing es more = more
         by_state Open es more = by_link ((w.dials d).link == e.link) refl es more
 
-    one_asked : (own : HeldEntry) → own.state ≡ Open → (w.dials d).link ≡ own.link → (rest : List HeldEntry) → Each Its rest → IsOne (λ (e : HeldEntry). (e.dial == d) ≡ false) own rest
+    pub one_asked : (own : HeldEntry) → own.state ≡ Open → (w.dials d).link ≡ own.link → (rest : List HeldEntry) → Each Its rest → IsOne (λ (e : HeldEntry). (e.dial == d) ≡ false) own rest
         → IsOne NotIts (CloseReq own.connect_id) (for_link (w.dials d).link (all_asked rest))
     one_asked own opened on [] its one = absurd one
     one_asked own opened on (e ∷ rest) its (inl one) = rw (one.0, opened, on, eqb_refl own.link) (inl (refl, quiet_asked rest its.1 (others rest one.1)))
@@ -143,25 +143,25 @@ module _ (w : World) (f : ℕ) (left : List Packet) (keys : Keys w) (front_of : 
   far_same d None agent i there ps = rw (no_request d i its_held there ps) refl
 
   -- ---- the entries of a dial
-  awaited_stays : (d : ℕ) → ((e : AwaitedEntry) → first_where (is_dial d) w.server.awaited ≡ Some e → (e.front == f) ≡ false) → first_where (is_dial d) (filter (λ e. not (is_of_front f e)) w.server.awaited) ≡ first_where (is_dial d) w.server.awaited
+  pub awaited_stays : (d : ℕ) → ((e : AwaitedEntry) → first_where (is_dial d) w.server.awaited ≡ Some e → (e.front == f) ≡ false) → first_where (is_dial d) (filter (λ e. not (is_of_front f e)) w.server.awaited) ≡ first_where (is_dial d) w.server.awaited
   awaited_stays d off = kept_where (is_dial d) (λ e. not (is_of_front f e)) w.server.awaited
       (each_more (λ (e : AwaitedEntry). first_where (is_dial e.dial) w.server.awaited ≡ Some e) (λ (e : AwaitedEntry). is_dial d e ≡ true → not (is_of_front f e) ≡ true) w.server.awaited
       (λ e its h. rw (off e (ap (λ i. first_where (is_dial i) w.server.awaited) (sym (eqb-true e.dial d h)) ∙ its)) refl) all_awaited)
 
-  awaited_gone : (d : ℕ) → ((e : AwaitedEntry) → first_where (is_dial d) w.server.awaited ≡ Some e → e.front ≡ f) → first_where (is_dial d) (filter (λ e. not (is_of_front f e)) w.server.awaited) ≡ None
+  pub awaited_gone : (d : ℕ) → ((e : AwaitedEntry) → first_where (is_dial d) w.server.awaited ≡ Some e → e.front ≡ f) → first_where (is_dial d) (filter (λ e. not (is_of_front f e)) w.server.awaited) ≡ None
   awaited_gone d on = none_where (is_dial d) (filter (λ e. not (is_of_front f e)) w.server.awaited)
       (each_more (λ (e : AwaitedEntry). (not (is_of_front f e) ≡ true) × (first_where (is_dial e.dial) w.server.awaited ≡ Some e)) (λ (e : AwaitedEntry). is_dial d e ≡ false) (filter (λ e. not (is_of_front f e)) w.server.awaited)
       (λ e its. false_unless (e.dial == d) (λ h. let at : e.front ≡ f = on e (ap (λ i. first_where (is_dial i) w.server.awaited) (sym (eqb-true e.dial d h)) ∙ its.1) in cc (rw (at, eqb_refl f) at its.0)))
       (each_kept (λ (e : AwaitedEntry). first_where (is_dial e.dial) w.server.awaited ≡ Some e) (λ e. not (is_of_front f e)) w.server.awaited all_awaited))
 
-  own_held : (d : ℕ) (e : HeldEntry) → first_where (is_held_dial d) w.server.held ≡ Some e → e.front ≡ Some f → IsOne (λ (x : HeldEntry). (x.dial == d) ≡ false) e its_held
+  pub own_held : (d : ℕ) (e : HeldEntry) → first_where (is_held_dial d) w.server.held ≡ Some e → e.front ≡ Some f → IsOne (λ (x : HeldEntry). (x.dial == d) ≡ false) e its_held
   own_held d e at front = one_of (λ (x : HeldEntry). x.dial) d e its_held (rising_filter (λ (x : HeldEntry). x.dial) (is_held_by f) w.server.held keys.server.orderly.held_rise)
       (kept_where (is_held_dial d) (is_held_by f) w.server.held
       (each_more (λ (x : HeldEntry). first_where (is_held_dial x.dial) w.server.held ≡ Some x) (λ (x : HeldEntry). is_held_dial d x ≡ true → is_held_by f x ≡ true) w.server.held
       (λ x its h. let same : x ≡ e = some_is d x e (ap (λ i. first_where (is_held_dial i) w.server.held) (sym (eqb-true x.dial d h)) ∙ its) at in rw (ap (λ (y : HeldEntry). y.front) same ∙ front, eqb_refl f) refl) all_held) ∙ at)
 
   -- no entry of this dial is open with this front
-  quiet_if : (d : ℕ) → ((e : HeldEntry) → first_where (is_held_dial d) w.server.held ≡ Some e → e.front ≡ Some f → e.state ≡ Open → ⊥) → Each (λ p. down_item (w.dials d).cid p ≡ OtherDown) (for_link (w.dials d).link (all_asked its_held))
+  pub quiet_if : (d : ℕ) → ((e : HeldEntry) → first_where (is_held_dial d) w.server.held ≡ Some e → e.front ≡ Some f → e.state ≡ Open → ⊥) → Each (λ p. down_item (w.dials d).cid p ≡ OtherDown) (for_link (w.dials d).link (all_asked its_held))
   quiet_if d none = quiet_asked d its_held held_its
       (each_more (λ (e : HeldEntry). (is_held_by f e ≡ true) × (first_where (is_held_dial e.dial) w.server.held ≡ Some e)) (λ (e : HeldEntry). e.state ≡ Open → (e.dial == d) ≡ false) its_held
       (λ e its opened. false_unless (e.dial == d) (λ h. none e (ap (λ i. first_where (is_held_dial i) w.server.held) (sym (eqb-true e.dial d h)) ∙ its.1) (front_is_some e.front f its.0) opened)) held_its)

@@ -126,23 +126,23 @@ module _ (w : World) (l : ℕ) (left : List Packet) (keys : Keys w) (front_of : 
   abbrev cut_off : World
   cut_off = link_is l Gone (up_is l [] (down_is l left w))
 
-  abbrev lost_awaited : List AwaitedEntry
+  abbrev pub lost_awaited : List AwaitedEntry
   lost_awaited = filter (is_of_link l) w.server.awaited
 
-  abbrev lost_held : List HeldEntry
+  abbrev pub lost_held : List HeldEntry
   lost_held = by_connect_id (filter (is_held_on l) w.server.held)
 
   abbrev lost : World
   lost = served (pos 0) (link_lost w.server l) cut_off
 
-  awaited_its : Each (λ (e : AwaitedEntry). (is_of_link l e ≡ true) × (first_where (is_dial e.dial) w.server.awaited ≡ Some e)) lost_awaited
+  pub awaited_its : Each (λ (e : AwaitedEntry). (is_of_link l e ≡ true) × (first_where (is_dial e.dial) w.server.awaited ≡ Some e)) lost_awaited
   awaited_its = each_kept (λ (e : AwaitedEntry). first_where (is_dial e.dial) w.server.awaited ≡ Some e) (is_of_link l) w.server.awaited (each_its (λ (e : AwaitedEntry). e.dial) w.server.awaited keys.server.orderly.awaited_rise)
 
-  held_its : Each (λ (e : HeldEntry). (is_held_on l e ≡ true) × (first_where (is_held_dial e.dial) w.server.held ≡ Some e)) lost_held
+  pub held_its : Each (λ (e : HeldEntry). (is_held_on l e ≡ true) × (first_where (is_held_dial e.dial) w.server.held ≡ Some e)) lost_held
   held_its = each_sorted (λ (e : HeldEntry). (is_held_on l e ≡ true) × (first_where (is_held_dial e.dial) w.server.held ≡ Some e)) (filter (is_held_on l) w.server.held)
       (each_kept (λ (e : HeldEntry). first_where (is_held_dial e.dial) w.server.held ≡ Some e) (is_held_on l) w.server.held (each_its (λ (e : HeldEntry). e.dial) w.server.held keys.server.orderly.held_rise))
 
-  to_fronts : ToFronts (all_awaited_lost lost_awaited ++ all_held_lost lost_held)
+  pub to_fronts : ToFronts (all_awaited_lost lost_awaited ++ all_held_lost lost_held)
   to_fronts = fronts_awaited lost_awaited (all_held_lost lost_held) (fronts_held lost_held)
 
   -- ---- what an app is told
@@ -169,7 +169,7 @@ module _ (w : World) (l : ℕ) (left : List Packet) (keys : Keys w) (front_of : 
         here true on more = (refusal_quiet e its.0.1 others.0 on, more)
         here false on more = more
 
-    quiet_held : (es : List HeldEntry) → Each (λ (e : HeldEntry). (is_held_on l e ≡ true) × (first_where (is_held_dial e.dial) w.server.held ≡ Some e)) es → Each (λ (e : HeldEntry). e.front ≡ Some (w.apps k).stream → is_drawn_number (w.apps k).dial (pos e.dial) ≡ false) es
+    pub quiet_held : (es : List HeldEntry) → Each (λ (e : HeldEntry). (is_held_on l e ≡ true) × (first_where (is_held_dial e.dial) w.server.held ≡ Some e)) es → Each (λ (e : HeldEntry). e.front ≡ Some (w.apps k).stream → is_drawn_number (w.apps k).dial (pos e.dial) ≡ false) es
         → Each NotOurs (for_front (w.apps k).stream (all_held_lost es))
     quiet_held [] its others = tt
     quiet_held (e ∷ es) its others = by_front e.front refl (quiet_held es its.1 others.1)
@@ -182,7 +182,7 @@ module _ (w : World) (l : ℕ) (left : List Packet) (keys : Keys w) (front_of : 
             here true on more = (close_quiet e f its.0.1 front (others.0 (front ∙ ap Some (sym (eqb-true (w.apps k).stream f on)))) on, more)
             here false on more = more
 
-    one_awaited : (d : ℕ) (own : AwaitedEntry) → (w.apps k).dial ≡ Some d → own.front ≡ (w.apps k).stream → (es : List AwaitedEntry) (us : List ServerOut) → Each (λ (e : AwaitedEntry). (is_of_link l e ≡ true) × (first_where (is_dial e.dial) w.server.awaited ≡ Some e)) es
+    pub one_awaited : (d : ℕ) (own : AwaitedEntry) → (w.apps k).dial ≡ Some d → own.front ≡ (w.apps k).stream → (es : List AwaitedEntry) (us : List ServerOut) → Each (λ (e : AwaitedEntry). (is_of_link l e ≡ true) × (first_where (is_dial e.dial) w.server.awaited ≡ Some e)) es
         → IsOne (λ (e : AwaitedEntry). (e.dial == d) ≡ false) own es → Each NotOurs (for_front (w.apps k).stream us) → IsOne NotOurs (DialRsp (codes "agent lost") (pos 0) own.random) (for_front (w.apps k).stream (all_awaited_lost es ++ us))
     one_awaited d own de on [] us its one h = absurd one
     one_awaited d own de on (e ∷ es) us its (inl one) h = rw (one.0, on, eqb_refl (w.apps k).stream) (inl (refl, quiet_awaited es us its.1 (others es one.1) h))
@@ -197,7 +197,7 @@ module _ (w : World) (l : ℕ) (left : List Packet) (keys : Keys w) (front_of : 
         here true t more = inr (refusal_quiet e its.0.1 (rw de one.0) t, more)
         here false t more = more
 
-    behind_awaited : (p : Packet) (es : List AwaitedEntry) (us : List ServerOut) → Each (λ (e : AwaitedEntry). (is_of_link l e ≡ true) × (first_where (is_dial e.dial) w.server.awaited ≡ Some e)) es → Each (λ (e : AwaitedEntry). is_drawn_number (w.apps k).dial (pos e.dial) ≡ false) es
+    pub behind_awaited : (p : Packet) (es : List AwaitedEntry) (us : List ServerOut) → Each (λ (e : AwaitedEntry). (is_of_link l e ≡ true) × (first_where (is_dial e.dial) w.server.awaited ≡ Some e)) es → Each (λ (e : AwaitedEntry). is_drawn_number (w.apps k).dial (pos e.dial) ≡ false) es
         → IsOne NotOurs p (for_front (w.apps k).stream us) → IsOne NotOurs p (for_front (w.apps k).stream (all_awaited_lost es ++ us))
     behind_awaited p [] us its others h = h
     behind_awaited p (e ∷ es) us its others h = here ((w.apps k).stream == e.front) refl (behind_awaited p es us its.1 others.1 h)
@@ -206,7 +206,7 @@ module _ (w : World) (l : ℕ) (left : List Packet) (keys : Keys w) (front_of : 
         here true on more = inr (refusal_quiet e its.0.1 others.0 on, more)
         here false on more = more
 
-    one_held : (d : ℕ) (own : HeldEntry) → (w.apps k).dial ≡ Some d → own.front ≡ Some (w.apps k).stream → (es : List HeldEntry) → Each (λ (e : HeldEntry). (is_held_on l e ≡ true) × (first_where (is_held_dial e.dial) w.server.held ≡ Some e)) es
+    pub one_held : (d : ℕ) (own : HeldEntry) → (w.apps k).dial ≡ Some d → own.front ≡ Some (w.apps k).stream → (es : List HeldEntry) → Each (λ (e : HeldEntry). (is_held_on l e ≡ true) × (first_where (is_held_dial e.dial) w.server.held ≡ Some e)) es
         → IsOne (λ (e : HeldEntry). (e.dial == d) ≡ false) own es → IsOne NotOurs (CloseRsp (codes "agent lost") (pos own.dial)) (for_front (w.apps k).stream (all_held_lost es))
     one_held d own de on [] its one = absurd one
     one_held d own de on (e ∷ es) its (inl one) = rw (one.0, on, eqb_refl (w.apps k).stream) (inl (refl, quiet_held es its.1 (others es one.1)))
@@ -240,51 +240,51 @@ module _ (w : World) (l : ℕ) (left : List Packet) (keys : Keys w) (front_of : 
   all_held = each_its (λ (e : HeldEntry). e.dial) w.server.held keys.server.orderly.held_rise
 
   -- of another link's dial none is lost
-  away_awaited : (d : ℕ) → ((w.dials d).link == l) ≡ false → Each (λ (e : AwaitedEntry). (e.dial == d) ≡ false) lost_awaited
+  pub away_awaited : (d : ℕ) → ((w.dials d).link == l) ≡ false → Each (λ (e : AwaitedEntry). (e.dial == d) ≡ false) lost_awaited
   away_awaited d off = each_more (λ (e : AwaitedEntry). (is_of_link l e ≡ true) × (first_where (is_dial e.dial) w.server.awaited ≡ Some e)) (λ (e : AwaitedEntry). (e.dial == d) ≡ false) lost_awaited
       (λ e its. false_unless (e.dial == d) (λ h. let at = its_awaited_link d e (eqb-true e.dial d h) its.1 in cc (rw (at ∙ eqb-true e.link l its.0) at off, eqb_refl l))) awaited_its
 
-  away_held : (d : ℕ) → ((w.dials d).link == l) ≡ false → Each (λ (e : HeldEntry). (e.dial == d) ≡ false) lost_held
+  pub away_held : (d : ℕ) → ((w.dials d).link == l) ≡ false → Each (λ (e : HeldEntry). (e.dial == d) ≡ false) lost_held
   away_held d off = each_more (λ (e : HeldEntry). (is_held_on l e ≡ true) × (first_where (is_held_dial e.dial) w.server.held ≡ Some e)) (λ (e : HeldEntry). (e.dial == d) ≡ false) lost_held
       (λ e its. false_unless (e.dial == d) (λ h. let at = its_held_link d e (eqb-true e.dial d h) its.1 in cc (rw (at ∙ eqb-true e.link l its.0) at off, eqb_refl l))) held_its
 
-  no_awaited : (d : ℕ) → first_where (is_dial d) w.server.awaited ≡ None → Each (λ (e : AwaitedEntry). (e.dial == d) ≡ false) lost_awaited
+  pub no_awaited : (d : ℕ) → first_where (is_dial d) w.server.awaited ≡ None → Each (λ (e : AwaitedEntry). (e.dial == d) ≡ false) lost_awaited
   no_awaited d none = each_more (λ (e : AwaitedEntry). (is_of_link l e ≡ true) × (first_where (is_dial e.dial) w.server.awaited ≡ Some e)) (λ (e : AwaitedEntry). (e.dial == d) ≡ false) lost_awaited
       (λ e its. false_unless (e.dial == d) (λ h. cc (rw (eqb-true e.dial d h) at its.1, none))) awaited_its
 
-  no_held : (d : ℕ) → first_where (is_held_dial d) w.server.held ≡ None → Each (λ (e : HeldEntry). (e.dial == d) ≡ false) lost_held
+  pub no_held : (d : ℕ) → first_where (is_held_dial d) w.server.held ≡ None → Each (λ (e : HeldEntry). (e.dial == d) ≡ false) lost_held
   no_held d none = each_more (λ (e : HeldEntry). (is_held_on l e ≡ true) × (first_where (is_held_dial e.dial) w.server.held ≡ Some e)) (λ (e : HeldEntry). (e.dial == d) ≡ false) lost_held
       (λ e its. false_unless (e.dial == d) (λ h. cc (rw (eqb-true e.dial d h) at its.1, none))) held_its
 
-  awaited_gone : (d : ℕ) → (w.dials d).link ≡ l → first_where (is_dial d) (filter (λ e. not (is_of_link l e)) w.server.awaited) ≡ None
+  pub awaited_gone : (d : ℕ) → (w.dials d).link ≡ l → first_where (is_dial d) (filter (λ e. not (is_of_link l e)) w.server.awaited) ≡ None
   awaited_gone d on = none_where (is_dial d) (filter (λ e. not (is_of_link l e)) w.server.awaited)
       (each_more (λ (e : AwaitedEntry). (not (is_of_link l e) ≡ true) × (first_where (is_dial e.dial) w.server.awaited ≡ Some e)) (λ (e : AwaitedEntry). is_dial d e ≡ false) (filter (λ e. not (is_of_link l e)) w.server.awaited)
       (λ e its. false_unless (e.dial == d) (λ h. let at : e.link ≡ l = sym (its_awaited_link d e (eqb-true e.dial d h) its.1) ∙ on in cc (rw (at, eqb_refl l) at its.0)))
       (each_kept (λ (e : AwaitedEntry). first_where (is_dial e.dial) w.server.awaited ≡ Some e) (λ e. not (is_of_link l e)) w.server.awaited all_awaited))
 
-  held_gone : (d : ℕ) → (w.dials d).link ≡ l → first_where (is_held_dial d) (filter (λ e. not (is_held_on l e)) w.server.held) ≡ None
+  pub held_gone : (d : ℕ) → (w.dials d).link ≡ l → first_where (is_held_dial d) (filter (λ e. not (is_held_on l e)) w.server.held) ≡ None
   held_gone d on = none_where (is_held_dial d) (filter (λ e. not (is_held_on l e)) w.server.held)
       (each_more (λ (e : HeldEntry). (not (is_held_on l e) ≡ true) × (first_where (is_held_dial e.dial) w.server.held ≡ Some e)) (λ (e : HeldEntry). is_held_dial d e ≡ false) (filter (λ e. not (is_held_on l e)) w.server.held)
       (λ e its. false_unless (e.dial == d) (λ h. let at : e.link ≡ l = sym (its_held_link d e (eqb-true e.dial d h) its.1) ∙ on in cc (rw (at, eqb_refl l) at its.0)))
       (each_kept (λ (e : HeldEntry). first_where (is_held_dial e.dial) w.server.held ≡ Some e) (λ e. not (is_held_on l e)) w.server.held all_held))
 
-  awaited_stays : (d : ℕ) → ((w.dials d).link == l) ≡ false → first_where (is_dial d) (filter (λ e. not (is_of_link l e)) w.server.awaited) ≡ first_where (is_dial d) w.server.awaited
+  pub awaited_stays : (d : ℕ) → ((w.dials d).link == l) ≡ false → first_where (is_dial d) (filter (λ e. not (is_of_link l e)) w.server.awaited) ≡ first_where (is_dial d) w.server.awaited
   awaited_stays d off = kept_where (is_dial d) (λ e. not (is_of_link l e)) w.server.awaited
       (each_more (λ (e : AwaitedEntry). first_where (is_dial e.dial) w.server.awaited ≡ Some e) (λ (e : AwaitedEntry). is_dial d e ≡ true → not (is_of_link l e) ≡ true) w.server.awaited
       (λ e its h. rw (sym (its_awaited_link d e (eqb-true e.dial d h) its), off) refl) all_awaited)
 
-  held_stays : (d : ℕ) → ((w.dials d).link == l) ≡ false → first_where (is_held_dial d) (filter (λ e. not (is_held_on l e)) w.server.held) ≡ first_where (is_held_dial d) w.server.held
+  pub held_stays : (d : ℕ) → ((w.dials d).link == l) ≡ false → first_where (is_held_dial d) (filter (λ e. not (is_held_on l e)) w.server.held) ≡ first_where (is_held_dial d) w.server.held
   held_stays d off = kept_where (is_held_dial d) (λ e. not (is_held_on l e)) w.server.held
       (each_more (λ (e : HeldEntry). first_where (is_held_dial e.dial) w.server.held ≡ Some e) (λ (e : HeldEntry). is_held_dial d e ≡ true → not (is_held_on l e) ≡ true) w.server.held
       (λ e its h. rw (sym (its_held_link d e (eqb-true e.dial d h) its), off) refl) all_held)
 
-  own_awaited : (d : ℕ) (e : AwaitedEntry) → (w.dials d).link ≡ l → first_where (is_dial d) w.server.awaited ≡ Some e → IsOne (λ (x : AwaitedEntry). (x.dial == d) ≡ false) e lost_awaited
+  pub own_awaited : (d : ℕ) (e : AwaitedEntry) → (w.dials d).link ≡ l → first_where (is_dial d) w.server.awaited ≡ Some e → IsOne (λ (x : AwaitedEntry). (x.dial == d) ≡ false) e lost_awaited
   own_awaited d e on at = one_of (λ (x : AwaitedEntry). x.dial) d e lost_awaited (rising_filter (λ (x : AwaitedEntry). x.dial) (is_of_link l) w.server.awaited keys.server.orderly.awaited_rise)
       (kept_where (is_dial d) (is_of_link l) w.server.awaited
       (each_more (λ (x : AwaitedEntry). first_where (is_dial x.dial) w.server.awaited ≡ Some x) (λ (x : AwaitedEntry). is_dial d x ≡ true → is_of_link l x ≡ true) w.server.awaited
       (λ x its h. rw (sym (its_awaited_link d x (eqb-true x.dial d h) its), on, eqb_refl l) refl) all_awaited) ∙ at)
 
-  own_held : (d : ℕ) (e : HeldEntry) → (w.dials d).link ≡ l → first_where (is_held_dial d) w.server.held ≡ Some e → IsOne (λ (x : HeldEntry). (x.dial == d) ≡ false) e lost_held
+  pub own_held : (d : ℕ) (e : HeldEntry) → (w.dials d).link ≡ l → first_where (is_held_dial d) w.server.held ≡ Some e → IsOne (λ (x : HeldEntry). (x.dial == d) ≡ false) e lost_held
   own_held d e on at = one_sorted (λ (x : HeldEntry). (x.dial == d) ≡ false) e (filter (is_held_on l) w.server.held)
       (one_of (λ (x : HeldEntry). x.dial) d e (filter (is_held_on l) w.server.held) (rising_filter (λ (x : HeldEntry). x.dial) (is_held_on l) w.server.held keys.server.orderly.held_rise)
       (kept_where (is_held_dial d) (is_held_on l) w.server.held
@@ -296,13 +296,13 @@ module _ (w : World) (l : ℕ) (left : List Packet) (keys : Keys w) (front_of : 
     abbrev told : List Packet
     told = for_front (w.apps k).stream (all_awaited_lost lost_awaited ++ all_held_lost lost_held)
 
-    drawn_awaited : (d : ℕ) → (w.apps k).dial ≡ Some d → Each (λ (e : AwaitedEntry). (e.dial == d) ≡ false) lost_awaited → Each (λ (e : AwaitedEntry). is_drawn_number (w.apps k).dial (pos e.dial) ≡ false) lost_awaited
+    pub drawn_awaited : (d : ℕ) → (w.apps k).dial ≡ Some d → Each (λ (e : AwaitedEntry). (e.dial == d) ≡ false) lost_awaited → Each (λ (e : AwaitedEntry). is_drawn_number (w.apps k).dial (pos e.dial) ≡ false) lost_awaited
     drawn_awaited d de h = each_more (λ (e : AwaitedEntry). (e.dial == d) ≡ false) (λ (e : AwaitedEntry). is_drawn_number (w.apps k).dial (pos e.dial) ≡ false) lost_awaited (λ e i. rw de i) h
 
-    drawn_held : (d : ℕ) → (w.apps k).dial ≡ Some d → Each (λ (e : HeldEntry). (e.dial == d) ≡ false) lost_held → Each (λ (e : HeldEntry). e.front ≡ Some (w.apps k).stream → is_drawn_number (w.apps k).dial (pos e.dial) ≡ false) lost_held
+    pub drawn_held : (d : ℕ) → (w.apps k).dial ≡ Some d → Each (λ (e : HeldEntry). (e.dial == d) ≡ false) lost_held → Each (λ (e : HeldEntry). e.front ≡ Some (w.apps k).stream → is_drawn_number (w.apps k).dial (pos e.dial) ≡ false) lost_held
     drawn_held d de h = each_more (λ (e : HeldEntry). (e.dial == d) ≡ false) (λ (e : HeldEntry). e.front ≡ Some (w.apps k).stream → is_drawn_number (w.apps k).dial (pos e.dial) ≡ false) lost_held (λ e i f. rw de i) h
 
-    quiet : Each (λ (e : AwaitedEntry). is_drawn_number (w.apps k).dial (pos e.dial) ≡ false) lost_awaited
+    pub quiet : Each (λ (e : AwaitedEntry). is_drawn_number (w.apps k).dial (pos e.dial) ≡ false) lost_awaited
         → Each (λ (e : HeldEntry). e.front ≡ Some (w.apps k).stream → is_drawn_number (w.apps k).dial (pos e.dial) ≡ false) lost_held
         → Each (NotFor (w.streams (w.apps k).stream).connect (w.apps k).number (w.apps k).dial) told
     quiet a h = quiet_awaited k came lost_awaited (all_held_lost lost_held) awaited_its a (quiet_held k came lost_held held_its h)

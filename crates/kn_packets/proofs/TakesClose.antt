@@ -95,10 +95,10 @@ module _ (w : World) (l : ℕ) (c : ℤ) (error : List ℕ) (rest : List Packet)
     ends front = served (pos 0) (record { state = record w.server { held = without (is_held l c) w.server.held }; outs = ended_to front e.dial (error_cut error) }) (up_is l rest w)
 
     -- no entry is left of its dial, and the others stay
-    gone : first_where (is_held_dial e.dial) (without (is_held l c) w.server.held) ≡ None
+    pub gone : first_where (is_held_dial e.dial) (without (is_held l c) w.server.held) ≡ None
     gone = gone_without (λ (x : HeldEntry). x.dial) (is_held l c) e.dial e w.server.held keys.server.orderly.held_rise (its_entry w keys l c e at) at
 
-    kept : (d : ℕ) → (e.dial == d) ≡ false → first_where (is_held_dial d) (without (is_held l c) w.server.held) ≡ first_where (is_held_dial d) w.server.held
+    pub kept : (d : ℕ) → (e.dial == d) ≡ false → first_where (is_held_dial d) (without (is_held l c) w.server.held) ≡ first_where (is_held_dial d) w.server.held
     kept d other = kept_without (is_held_dial d) (is_held l c) e w.server.held at other
 
     not_awaited : first_where (is_dial e.dial) w.server.awaited ≡ None

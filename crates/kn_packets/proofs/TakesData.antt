@@ -33,11 +33,11 @@ data_item dial cid c error bytes e = rw e refl
 data_other : (dial : ℕ) (cid : Option ℕ) (c : ℤ) (error bytes : List ℕ) → is_drawn_number cid c ≡ false → up_item dial cid (Data c error bytes) ≡ OtherUp
 data_other dial cid c error bytes e = rw e refl
 
-passed_item : (c : Bool) (n d : ℕ) (bytes : List ℕ) → stream_out_item c n (Some d) (Data (pos d) [] bytes) ≡ BytesOut bytes
+pub passed_item : (c : Bool) (n d : ℕ) (bytes : List ℕ) → stream_out_item c n (Some d) (Data (pos d) [] bytes) ≡ BytesOut bytes
 passed_item true n d bytes = refl
 passed_item false n d bytes = rw (eqb_refl d) refl
 
-passed_other : (c : Bool) (n : ℕ) (D : Option ℕ) (z : ℤ) (bytes : List ℕ) → c ≡ false → is_drawn_number D z ≡ false → stream_out_item c n D (Data z [] bytes) ≡ OtherOut
+pub passed_other : (c : Bool) (n : ℕ) (D : Option ℕ) (z : ℤ) (bytes : List ℕ) → c ≡ false → is_drawn_number D z ≡ false → stream_out_item c n D (Data z [] bytes) ≡ OtherOut
 passed_other true n D z bytes e h = absurd cc
 passed_other false n D z bytes e h = rw h refl
 

@@ -133,7 +133,7 @@ module _ (w : World) (f : ℕ) (random : ℤ) (rest : List Packet) (keys : Keys 
         split true false a b h = absurd cc
         split false q a b h = absurd cc
 
-    its_place : first_where (is_dial e.dial) w.server.awaited ≡ Some e
+    pub its_place : first_where (is_dial e.dial) w.server.awaited ≡ Some e
     its_place = found_by_number (λ (x : AwaitedEntry). x.dial) (is_random f random) e w.server.awaited keys.server.orderly.awaited_rise at
 
     its_app : (k : ℕ) → (w.apps k).came ≡ true → (w.apps k).stream ≡ f → is_number (w.apps k).number random ≡ true → (w.apps k).dial ≡ Some e.dial
@@ -196,10 +196,10 @@ close_in n D c e = rw e refl
 close_not : (n : ℕ) (D : Option ℕ) (c : ℤ) → is_drawn_number D c ≡ false → stream_in_item false n D (CloseReq c) ≡ OtherIn
 close_not n D c e = rw e refl
 
-closed_out : (n : ℕ) (D : Option ℕ) (c : ℤ) (error : List ℕ) → is_drawn_number D c ≡ true → stream_out_item false n D (CloseRsp error c) ≡ CloseOut
+pub closed_out : (n : ℕ) (D : Option ℕ) (c : ℤ) (error : List ℕ) → is_drawn_number D c ≡ true → stream_out_item false n D (CloseRsp error c) ≡ CloseOut
 closed_out n D c error e = rw e refl
 
-closed_not : (n : ℕ) (D : Option ℕ) (c : ℤ) (error : List ℕ) → is_drawn_number D c ≡ false → stream_out_item false n D (CloseRsp error c) ≡ OtherOut
+pub closed_not : (n : ℕ) (D : Option ℕ) (c : ℤ) (error : List ℕ) → is_drawn_number D c ≡ false → stream_out_item false n D (CloseRsp error c) ≡ OtherOut
 closed_not n D c error e = rw e refl
 
 may_close : (p r c e q : Bool) → p ≡ true → (r && c && e) ≡ true → q ≡ true → (p && r && c && e && q) ≡ true
@@ -216,12 +216,12 @@ module _ (w : World) (f : ℕ) (c : ℤ) (rest : List Packet) (keys : Keys w) (f
   close_other : (n : ℕ) (D : Option ℕ) → is_drawn_number D c ≡ false → stream_in_word false n D rest ≡ stream_in_word false n D (w.streams f).up
   close_other n D e = rw first (in_other_taken (stream_in_item false n D) (CloseReq c) rest (close_not n D c e))
 
-  close_may : (n : ℕ) (D : Option ℕ) → is_drawn_number D c ≡ true → in_ordered (stream_in_item false n D) (w.streams f).up ≡ true
+  pub close_may : (n : ℕ) (D : Option ℕ) → is_drawn_number D c ≡ true → in_ordered (stream_in_item false n D) (w.streams f).up ≡ true
       → (is_present (w.streams f).front && not (stream_in_word false n D (w.streams f).up).request && not (stream_in_word false n D (w.streams f).up).cancel && is_empty (stream_in_word false n D (w.streams f).up).bytes && (stream_in_word false n D (w.streams f).up).close) ≡ true
   close_may n D e o = may_close (is_present (w.streams f).front) (not (stream_in_word false n D (w.streams f).up).request) (not (stream_in_word false n D (w.streams f).up).cancel) (is_empty (stream_in_word false n D (w.streams f).up).bytes) (stream_in_word false n D (w.streams f).up).close
       present (rw first (in_close_order (stream_in_item false n D) (CloseReq c) rest (close_in n D c e) (rw first at o))) (rw (first, close_in n D c e) refl)
 
-  in_turn : (k : ℕ) (D : Option ℕ) → (w.apps k).came ≡ true → (w.apps k).stream ≡ f → (w.apps k).dial ≡ D → in_ordered (stream_in_item false (w.apps k).number D) (w.streams f).up ≡ true
+  pub in_turn : (k : ℕ) (D : Option ℕ) → (w.apps k).came ≡ true → (w.apps k).stream ≡ f → (w.apps k).dial ≡ D → in_ordered (stream_in_item false (w.apps k).number D) (w.streams f).up ≡ true
   in_turn k D came on de = rw (on, de, client) at ((keys.ordered k came).inward)
 
   may : (k d : ℕ) → (w.apps k).came ≡ true → (w.apps k).stream ≡ f → (w.apps k).dial ≡ Some d → is_number d c ≡ true → step.may event.ServerTakesClose (tunnel_of w (w.apps k) (Some d)) ≡ true
@@ -338,10 +338,10 @@ module _ (w : World) (f : ℕ) (c : ℤ) (rest : List Packet) (keys : Keys w) (f
     abbrev asking : World
     asking = served (pos 0) (record { state = record w.server { held = map (closed_at e.link e.connect_id true) w.server.held }; outs = close_asked e.link e.connect_id ∷ [] }) (in_is f rest w)
 
-    held_own : first_where (is_held_dial e.dial) (map (closed_at e.link e.connect_id true) w.server.held) ≡ Some (closed_entry true e)
+    pub held_own : first_where (is_held_dial e.dial) (map (closed_at e.link e.connect_id true) w.server.held) ≡ Some (closed_entry true e)
     held_own = mapped_found (closed_at e.link e.connect_id true) e.dial e w.server.held (λ y. closed_dial e.link e.connect_id true y) is.at ∙ ap Some (rw (own_held e) refl)
 
-    held_other : (d : ℕ) → (e.dial == d) ≡ false → first_where (is_held_dial d) (map (closed_at e.link e.connect_id true) w.server.held) ≡ first_where (is_held_dial d) w.server.held
+    pub held_other : (d : ℕ) → (e.dial == d) ≡ false → first_where (is_held_dial d) (map (closed_at e.link e.connect_id true) w.server.held) ≡ first_where (is_held_dial d) w.server.held
     held_other d other = here (first_where (is_held_dial d) w.server.held) refl
       where
         here : (o : Option HeldEntry) → first_where (is_held_dial d) w.server.held ≡ o → first_where (is_held_dial d) (map (closed_at e.link e.connect_id true) w.server.held) ≡ o

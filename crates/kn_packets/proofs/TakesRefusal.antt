@@ -164,7 +164,7 @@ module _ (w : World) (l x : ℕ) (xs : List ℕ) (c random : ℤ) (rest : List P
         by_dial None de = inl (rw (out_same k came None de refl ((w.apps k).stream == e.front) refl, finish_same k came (rw de refl) ((w.apps k).stream == e.front) refl, answer_same k came (rw de refl) ((w.apps k).stream == e.front) refl (w.apps k).phase) refl)
         by_dial (Some d) de = by_key d de (e.dial == d) refl
 
-  short : length (x ∷ xs) ≤ 256
+  pub short : length (x ∷ xs) ≤ 256
   short = let fits : Each (ReplyFits w l) (DialRsp (x ∷ xs) c random ∷ rest) = rw first at (keys.agents.replies l) in fits.0
 
   pub refusal_lifts : (o : Option AwaitedEntry) → of_link l (dial_at random w.server.awaited) ≡ o → Lifts w (served (pos 0) (refused_reply w.server (x ∷ xs) o) (up_is l rest w))

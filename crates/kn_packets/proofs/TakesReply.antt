@@ -45,11 +45,11 @@ reply_item dial cid c random e = rw e refl
 reply_other : (dial : ℕ) (cid : Option ℕ) (c random : ℤ) → is_drawn_number cid c ≡ false → up_item dial cid (DialRsp [] c random) ≡ OtherUp
 reply_other dial cid c random e = rw e refl
 
-opened_own : (c : Bool) (n : ℕ) (D : Option ℕ) (connect_id random : ℤ) → asks c n random ≡ true → stream_out_item c n D (DialRsp [] connect_id random) ≡ ReplyOut
+pub opened_own : (c : Bool) (n : ℕ) (D : Option ℕ) (connect_id random : ℤ) → asks c n random ≡ true → stream_out_item c n D (DialRsp [] connect_id random) ≡ ReplyOut
 opened_own true n D connect_id random e = refl
 opened_own false n D connect_id random e = rw e refl
 
-opened_not : (c : Bool) (n : ℕ) (D : Option ℕ) (connect_id random : ℤ) → asks c n random ≡ false → stream_out_item c n D (DialRsp [] connect_id random) ≡ OtherOut
+pub opened_not : (c : Bool) (n : ℕ) (D : Option ℕ) (connect_id random : ℤ) → asks c n random ≡ false → stream_out_item c n D (DialRsp [] connect_id random) ≡ OtherOut
 opened_not true n D connect_id random e = absurd cc
 opened_not false n D connect_id random e = rw e refl
 
@@ -75,14 +75,14 @@ held_is Open (Some f) = refl
 held_is Closing (Some f) = refl
 
 module _ (w : World) (l : ℕ) (c random : ℤ) (rest : List Packet) (keys : Keys w) (first : (w.links l).up ≡ DialRsp [] c random ∷ rest) (there : not (is_gone (w.links l).server) ≡ true) where
-  it : OfDial w l c random
+  pub it : OfDial w l c random
   it = let fits : Each (ReplyFits w l) (DialRsp [] c random ∷ rest) = rw first at (keys.agents.replies l) in fits.0
 
   key0 : is_drawn_number (w.dials it.dial).cid c ≡ true
   key0 = key_is (w.dials it.dial).cid c it.cid it.drawn it.named
 
   -- the connection is of one dial
-  is_it : (d : ℕ) → (w.dials d).link ≡ l → is_drawn_number (w.dials d).cid c ≡ true → d ≡ it.dial
+  pub is_it : (d : ℕ) → (w.dials d).link ≡ l → is_drawn_number (w.dials d).cid c ≡ true → d ≡ it.dial
   is_it d on key = let named = is_key (w.dials d).cid c key in
       keys.agents.cid_once d it.dial named.0 (on ∙ sym it.on) named.1 (it.drawn ∙ ap Some (pos_one it.cid named.0 (sym it.named ∙ named.2)))
 
@@ -92,14 +92,14 @@ module _ (w : World) (l : ℕ) (c random : ℤ) (rest : List Packet) (keys : Key
   word_other : (d : ℕ) (cid : Option ℕ) → is_drawn_number cid c ≡ false → up_word d cid rest ≡ up_word d cid (w.links l).up
   word_other d cid e = rw first (up_other_taken (up_item d cid) (DialRsp [] c random) rest (reply_other d cid c random e))
 
-  replied_up : (d : ℕ) (cid : Option ℕ) → is_drawn_number cid c ≡ true → (up_word d cid (w.links l).up).reply ≡ true
+  pub replied_up : (d : ℕ) (cid : Option ℕ) → is_drawn_number cid c ≡ true → (up_word d cid (w.links l).up).reply ≡ true
   replied_up d cid e = rw (first, reply_item d cid c random e) refl
 
   may_own : (k d : ℕ) → (w.dials d).link ≡ l → is_drawn_number (w.dials d).cid c ≡ true → step.may event.ServerTakesReply (tunnel_of w (w.apps k) (Some d)) ≡ true
   may_own k d on key = rw (on, there, replied_up d (w.dials d).cid key) refl
 
   -- a reply of a connection that is held never comes
-  none_held : first_where (is_held l c) w.server.held ≡ None
+  pub none_held : first_where (is_held l c) w.server.held ≡ None
   none_held = here (first_where (is_held l c) w.server.held) refl
     where
       here : (o : Option HeldEntry) → first_where (is_held l c) w.server.held ≡ o → o ≡ None
@@ -163,19 +163,19 @@ module _ (w : World) (l : ℕ) (c random : ℤ) (rest : List Packet) (keys : Key
     abbrev opened : World
     opened = served (pos 0) (tunnel_opened w.server l c e) (up_is l rest w)
 
-    same_dial : it.dial ≡ e.dial
+    pub same_dial : it.dial ≡ e.dial
     same_dial = pos_one it.dial e.dial (sym it.asked ∙ for.named)
 
-    its_link : (w.dials e.dial).link ≡ l
+    pub its_link : (w.dials e.dial).link ≡ l
     its_link = (keys.server.awaited e.dial e for.at).link ∙ for.link
 
     key_of : is_drawn_number (w.dials e.dial).cid c ≡ true
     key_of = rw same_dial at key0
 
-    held_now : first_where (is_held_dial e.dial) (in_place (λ (x : HeldEntry). x.dial) entry w.server.held) ≡ Some entry
+    pub held_now : first_where (is_held_dial e.dial) (in_place (λ (x : HeldEntry). x.dial) entry w.server.held) ≡ Some entry
     held_now = put_found (λ (x : HeldEntry). x.dial) (is_held_dial e.dial) entry w.server.held (awaited_unheld w keys l e for.at) (eqb_refl e.dial)
 
-    held_same : (d : ℕ) → (e.dial == d) ≡ false → first_where (is_held_dial d) (in_place (λ (x : HeldEntry). x.dial) entry w.server.held) ≡ first_where (is_held_dial d) w.server.held
+    pub held_same : (d : ℕ) → (e.dial == d) ≡ false → first_where (is_held_dial d) (in_place (λ (x : HeldEntry). x.dial) entry w.server.held) ≡ first_where (is_held_dial d) w.server.held
     held_same d other = first_in_place (λ (x : HeldEntry). x.dial) (is_held_dial d) entry w.server.held other
 
     out_same : (k : ℕ) → (w.apps k).came ≡ true → (D : Option ℕ) → (w.apps k).dial ≡ D → is_drawn_number D (pos e.dial) ≡ false → (b : Bool) → ((w.apps k).stream == e.front) ≡ b

@@ -72,13 +72,13 @@ phase_refused true listed noted = refl
 phase_refused false listed noted = refl
 
 -- a request on its way has no dial yet
-request_undrawn : (t : Tunnel) → link_ok (link_view t) ≡ true → t.inward.request ≡ true → is_drawn t.far ≡ false
+pub request_undrawn : (t : Tunnel) → link_ok (link_view t) ≡ true → t.inward.request ≡ true → is_drawn t.far ≡ false
 request_undrawn t h r =
     let control : control_ok t.entry t.far t.server t.agent t.cid t.inward.request ≡ true = and_first (control_ok t.entry t.far t.server t.agent t.cid t.inward.request) (up_ok (link_view t) && words_ok (link_view t)) h in
     let last : implies t.inward.request (not (is_drawn t.far)) ≡ true = and_second (holds_fit t.entry t.far t.server t.agent t.cid && implies (not t.server) (no_entry t.entry)) (implies t.inward.request (not (is_drawn t.far))) control in
     not_false (is_drawn t.far) (rw r at last)
 
-far_drawn : (d : ℕ) (cid : Option ℕ) (agent : AgentState) (down : List Packet) → is_drawn (far_of d cid agent down) ≡ true
+pub far_drawn : (d : ℕ) (cid : Option ℕ) (agent : AgentState) (down : List Packet) → is_drawn (far_of d cid agent down) ≡ true
 far_drawn d (Some c) agent down = connected (connection_at (pos c) agent.connections)
   where
     state : (s : DestState) → is_drawn (dest_far s) ≡ true
@@ -96,7 +96,7 @@ far_drawn d None agent down = dialled (first_where (has_random d) agent.dials) (
     dialled (Some x) b = refl
 
 -- a refused dial is told why
-has_text : (s : State) (f : ℕ) (protocol address : List ℕ) (random : ℤ) → dial_choice s f protocol address random ≡ Err [] → ⊥
+pub has_text : (s : State) (f : ℕ) (protocol address : List ℕ) (random : ℤ) → dial_choice s f protocol address random ≡ Err [] → ⊥
 has_text s f protocol address random e = here (is_some (first_where (is_random f random) s.awaited)) (is_tcp protocol) e
   where
     numbers : (o : Option (Strategy × ℕ)) → number_choice s o ≡ Err [] → ⊥
@@ -120,7 +120,7 @@ has_text s f protocol address random e = here (is_some (first_where (is_random f
     here false true h = hosts (host_in address) h
     here false false h = cc
 
-same_request : (b : Bool) (D : Option ℕ) (protocol address : List ℕ) (random : ℤ) → as_taken b D (DialReq protocol address random) ≡ DialReq protocol address random
+pub same_request : (b : Bool) (D : Option ℕ) (protocol address : List ℕ) (random : ℤ) → as_taken b D (DialReq protocol address random) ≡ DialReq protocol address random
 same_request true D protocol address random = refl
 same_request false D protocol address random = refl
 
@@ -129,7 +129,7 @@ module _ (w : World) (f : ℕ) (protocol address : List ℕ) (random : ℤ) (res
       → stream_in_word c n D rest ≡ record (stream_in_word c n D (w.streams f).up) { request = false }
   word_own c n D e order = rw first (in_request_taken (stream_in_item c n D) (DialReq protocol address random) rest (request_own c n D protocol address random e) (rw first at order))
 
-  asked : (c : Bool) (n : ℕ) (D : Option ℕ) → asks c n random ≡ true → (stream_in_word c n D (w.streams f).up).request ≡ true
+  pub asked : (c : Bool) (n : ℕ) (D : Option ℕ) → asks c n random ≡ true → (stream_in_word c n D (w.streams f).up).request ≡ true
   asked c n D e = rw (first, request_own c n D protocol address random e) refl
 
   word_other : (c : Bool) (n : ℕ) (D : Option ℕ) → asks c n random ≡ false → stream_in_word c n D rest ≡ stream_in_word c n D (w.streams f).up

@@ -28,12 +28,17 @@ use Rattle.kn_packets.specs.Outputs.{asks}
 use Rattle.kn_packets.specs.World.{World, has_random, tunnel}
 
 -- ---- the server
+-- a dial has an app
+abbrev pub HasApp : World → ℕ → Type 0
+HasApp w d = (k : ℕ) × ((w.apps k).came ≡ true) × ((w.apps k).dial ≡ Some d)
+
 -- an awaited dial is of its link, and of the app that asked for it and no other
 pub record AwaitedFits (w : World) (d : ℕ) (e : AwaitedEntry) : Type 0 where
   pub link : (w.dials d).link ≡ e.link
   pub front : (k : ℕ) → (w.apps k).came ≡ true → (w.apps k).dial ≡ Some d → (w.apps k).stream ≡ e.front
   pub random : (k : ℕ) → (w.apps k).came ≡ true → (w.apps k).dial ≡ Some d → asks (w.streams (w.apps k).stream).connect (w.apps k).number e.random ≡ true
   pub app : (k : ℕ) → (w.apps k).came ≡ true → (w.apps k).stream ≡ e.front → asks (w.streams (w.apps k).stream).connect (w.apps k).number e.random ≡ true → (w.apps k).dial ≡ Some d
+  pub has_app : HasApp w d
 
 -- a tunnel is of its dial's link and connectID, and its front is the stream of its dial's app
 pub record HeldFits (w : World) (d : ℕ) (e : HeldEntry) : Type 0 where
@@ -42,10 +47,6 @@ pub record HeldFits (w : World) (d : ℕ) (e : HeldEntry) : Type 0 where
   pub drawn : (w.dials d).cid ≡ Some cid
   pub named : e.connect_id ≡ pos cid
   pub front : (k f : ℕ) → (w.apps k).came ≡ true → (w.apps k).dial ≡ Some d → e.front ≡ Some f → (w.apps k).stream ≡ f
-
--- a dial has an app
-abbrev pub HasApp : World → ℕ → Type 0
-HasApp w d = (k : ℕ) × ((w.apps k).came ≡ true) × ((w.apps k).dial ≡ Some d)
 
 -- a packet names no dial from a bound on: on a stream by its connectID, on a link by its random
 abbrev pub IsBelow : ℕ → ℤ → Type 0
@@ -94,6 +95,7 @@ ReplyFits w link (Other number) = Unit {0}
 
 pub record ServerKeys (w : World) : Type 0 where
   pub orderly : IsOrderly w.server
+  pub from_one : 0 < w.server.next_dial
   pub links_up : (l : ℕ) → has_link l w.server.links ≡ is_present (w.links l).server
   pub fronts_up : (f : ℕ) → is_present (w.streams f).front ≡ true → is_up f w.server.fronts ≡ true
   pub awaited : (d : ℕ) (e : AwaitedEntry) → first_where (is_dial d) w.server.awaited ≡ Some e → AwaitedFits w d e
@@ -186,10 +188,14 @@ OfConnection (DialCls random) = ⊥
 OfConnection Drain = ⊥
 OfConnection (Other number) = ⊥
 
--- a reply on its way to a client has as connectID the dial of the app that its random names, and of no other
+-- an app of this stream asked with this random
+abbrev pub AskedOn : World → ℕ → ℤ → Type 0
+AskedOn w f random = (k : ℕ) × ((w.apps k).came ≡ true) × ((w.apps k).stream ≡ f) × (asks (w.streams f).connect (w.apps k).number random ≡ true)
+
+-- an answer on its way to a client is for an app of its stream; a reply has as connectID the dial of the app that its random names, and of no other
 abbrev pub AnswerFits : World → ℕ → Packet → Type 0
-AnswerFits w f (DialRsp [] connect_id random) = (k : ℕ) → (w.apps k).came ≡ true → (w.apps k).stream ≡ f → is_drawn_number (w.apps k).dial connect_id ≡ is_number (w.apps k).number random
-AnswerFits w f (DialRsp (x ∷ xs) connect_id random) = Unit {0}
+AnswerFits w f (DialRsp [] connect_id random) = AskedOn w f random × ((k : ℕ) → (w.apps k).came ≡ true → (w.apps k).stream ≡ f → is_drawn_number (w.apps k).dial connect_id ≡ is_number (w.apps k).number random)
+AnswerFits w f (DialRsp (x ∷ xs) connect_id random) = AskedOn w f random
 AnswerFits w f (DialReq protocol address random) = Unit {0}
 AnswerFits w f (Data connect_id error bytes) = Unit {0}
 AnswerFits w f (CloseReq connect_id) = Unit {0}
@@ -198,19 +204,20 @@ AnswerFits w f (DialCls random) = Unit {0}
 AnswerFits w f Drain = Unit {0}
 AnswerFits w f (Other number) = Unit {0}
 
--- a request on a stream is of an app of that stream
+-- a request on a stream, or its cancel, is of an app of that stream
 abbrev pub RequestOf : World → ℕ → Packet → Type 0
-RequestOf w f (DialReq protocol address random) = (k : ℕ) × ((w.apps k).came ≡ true) × ((w.apps k).stream ≡ f) × (asks (w.streams f).connect (w.apps k).number random ≡ true)
+RequestOf w f (DialReq protocol address random) = AskedOn w f random
 RequestOf w f (DialRsp error connect_id random) = Unit {0}
 RequestOf w f (Data connect_id error bytes) = Unit {0}
 RequestOf w f (CloseReq connect_id) = Unit {0}
 RequestOf w f (CloseRsp error connect_id) = Unit {0}
-RequestOf w f (DialCls random) = Unit {0}
+RequestOf w f (DialCls random) = AskedOn w f random
 RequestOf w f Drain = Unit {0}
 RequestOf w f (Other number) = Unit {0}
 
 pub record ClientKeys (w : World) : Type 0 where
   pub begun : (k : ℕ) → (w.apps k).came ≡ true → (w.streams (w.apps k).stream).begun ≡ true
+  pub unfinished : (f : ℕ) → (w.streams f).connect ≡ false → (w.streams f).finished ≡ false
   pub alone : (f g c : ℕ) → is_of_client c (w.streams f) ≡ true → is_of_client c (w.streams g) ≡ true → (w.streams f).client ≡ true → (w.streams g).client ≡ true → f ≡ g
   pub apart : (j k c n : ℕ) → IsAppOf w c n j → IsAppOf w c n k → j ≡ k
   pub connect_one : (j k : ℕ) → (w.apps j).came ≡ true → (w.apps k).came ≡ true → (w.apps j).stream ≡ (w.apps k).stream → (w.streams (w.apps j).stream).connect ≡ true → j ≡ k
@@ -220,6 +227,7 @@ pub record ClientKeys (w : World) : Type 0 where
   pub answers : (f : ℕ) → (w.streams f).connect ≡ false → Each (AnswerFits w f) (w.streams f).down
   pub known : (c n : ℕ) (x : App) → first_where (is_app n) (w.clients c).apps ≡ Some x → (k : ℕ) × IsAppOf w c n k
   pub apps_rise : (c : ℕ) → IsRising (λ (x : App). x.number) (w.clients c).apps
+  pub tops : (k : ℕ) → (w.apps k).came ≡ true → (w.streams (w.apps k).stream).connect ≡ false → (w.apps k).number ≤ (w.clients (w.streams (w.apps k).stream).owner).top_app
   pub listed : (k : ℕ) (x : App) → (w.apps k).came ≡ true → (w.streams (w.apps k).stream).connect ≡ false
       → first_where (is_app (w.apps k).number) (w.clients (w.streams (w.apps k).stream).owner).apps ≡ Some x → ListedFits w k x
   pub left : (k : ℕ) → (w.apps k).came ≡ true → (w.streams (w.apps k).stream).connect ≡ false

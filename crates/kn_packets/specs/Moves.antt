@@ -417,7 +417,7 @@ May (StreamBegins f c) w = ((w.streams f).begun ≡ false) × HasNoStream c w
 May (ClientTakes f) w = ((w.streams f).client && not (w.streams f).connect) ≡ true
 May (ClientLosesStream f left error) w = (((w.streams f).client && not (w.streams f).connect) ≡ true) × IsFrontOf left (w.streams f).up
 May (AppComes k f n address) w = (((w.streams f).begun && (w.streams f).client && not (w.streams f).connect && not (w.apps k).came) ≡ true)
-    × ((w.clients (w.streams f).owner).top_app < n) × (n < 9223372036854775807)
+    × ((w.clients (w.streams f).owner).top_app < n)
 May (AppSends k bytes) w = (w.apps k).came ≡ true
 May (AppHands k n) w = ((w.apps k).came && (is_opened (phase_in w (w.apps k)) || ((w.streams (w.apps k).stream).connect && is_dialling (phase_in w (w.apps k))))) ≡ true
 May (AppWrote k n) w = (((w.apps k).came && not (w.streams (w.apps k).stream).connect && is_here (phase_in w (w.apps k))) ≡ true) × (n ≤ length (w.apps k).side.unwritten)
