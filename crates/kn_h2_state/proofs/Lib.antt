@@ -7,7 +7,17 @@ pub mod VerdictFacts
 pub mod PieceLaws
 pub mod SeenLemmas
 pub mod OtherLaws
+pub mod BorneLemmas
 pub mod TextLaws
 pub mod WireLaws
 pub mod ReplyLaws
 pub mod TellLaws
+pub mod HearLaws
+pub mod OpenLaws
+pub mod StepLaws
+pub mod PreorderLaws
+pub mod OwnSteps
+pub mod LikeLemmas
+pub mod FacingLaws
+pub mod MoreLaws
+pub mod OwnFactLaws

@@ -11,16 +11,16 @@ use Rattle.kn_h2_state.specs.declared.stream.Stream.{Stream}
 use Rattle.kn_h2_state.specs.declared.state.State.{State}
 use Rattle.kn_h2_state.specs.Limits.{stream_limit}
 use Rattle.kn_h2_state.specs.Streams.{stream_at, change, is_open, open_count, shut, on_open, passes}
-use Rattle.kn_h2_state.specs.Payloads.{has, content, increment_of, reset_frame}
+use Rattle.kn_h2_state.specs.Payloads.{has, content, number_at, increment_of, reset_frame}
 use Rattle.kn_h2_state.specs.Heads.{is_malformed_request, is_malformed_response, is_informational}
-use Rattle.kn_h2_state.specs.Rules.{is_client, block_with, ends_block}
-use Rattle.kn_h2_state.specs.Effects.{event, reply, on_stream, peer_ends, if_open, with_text, data_taken, ended_if, data_in, data_dropped, data_of, new_stream, opens, accepted, request, headed, refused_response, response, head_of, decoded, block_ends, block_grown, block_of_headers, reset_of, with_grant, window_update, settings, effect}
+use Rattle.kn_h2_state.specs.Rules.{is_client, block_with, ends_block, verdict}
+use Rattle.kn_h2_state.specs.Effects.{event, reply, on_stream, peer_ends, if_open, with_text, data_taken, ended_if, data_in, data_dropped, data_of, new_stream, opens, accepted, request, headed, refused_response, response, head_of, decoded, block_ends, block_grown, block_of_headers, cut_off, reset_of, with_grant, window_update, settings, effect}
 use Rattle.kn_h2_state.specs.Feeding.{judged, after_frame}
 use Rattle.kn_h2_state.specs.Calls.{text_in, text_of}
-use Rattle.kn_h2_state.specs.Holding.{Rising}
 use Rattle.kn_h2_state.specs.Laws.{brought, TextGrows}
-use Rattle.kn_h2_state.proofs.SeenLemmas.{KeepsNumber, KeepsText, IsKeptAt, kept_at, at_change, at_changed, text_change, text_push, text_tidied, text_as_seen, Climbs, climbs, climbs_push, climbs_change, climbs_tidied}
-use Rattle.kn_h2_state.proofs.OtherLaws.{either, open_or, by_kind, reply_streams, same_reset, same_ping, same_goaway, alike_all_settings}
+use Rattle.kn_h2_state.proofs.SeenLemmas.{KeepsNumber, KeepsText, at_change, at_changed, text_change, text_push, text_tidied, text_as_seen, Climbs, climbs_change, climbs_tidied}
+use Rattle.kn_h2_state.proofs.OtherLaws.{either, open_or, by_kind, reply_streams, same_ping, same_goaway, alike_all_settings}
+use Rattle.kn_h2_state.proofs.BorneLemmas.{Rises, rises, climbing, rises_push}
 use Rattle.kn_h2_state.proofs.PieceLaws.{after_frame-judged}
 
 -- the text of the stream n is as it was
@@ -46,13 +46,13 @@ chosen P false x y p q = q refl
 
 -- ---- header blocks bring no text
 
-text_request : (m n : ℕ) (ends : Bool) (fields : List Field) (s : State) → Rising 0 s.opened s.streams → s.opened < m → Unread n s (request m ends fields s)
+text_request : (m n : ℕ) (ends : Bool) (fields : List Field) (s : State) → Rises 0 s.opened s.streams → s.opened < m → Unread n s (request m ends fields s)
 unfolding request accepted
 text_request m n ends fields s r above =
     let refused : (code : ℕ) → Unread n s (reply (reset_frame m code) (opens m s)) = λ code. text_reply n (reset_frame m code) (opens m s) in
     let pushed : State = event (record s { opened = m; streams = s.streams ++ new_stream m s ∷ [] }) (Opened m fields) in
     let there : Unread n s pushed = text_push s.streams n (new_stream m s) refl in
-    let begun : Unread n s (accepted m ends fields s) = text_ended ends m n pushed (climbs_push 0 s.opened s.streams (new_stream m s) r above) ∙ there in
+    let begun : Unread n s (accepted m ends fields s) = text_ended ends m n pushed (climbing 0 m pushed.streams (rises_push 0 s.opened s.streams (new_stream m s) r above)) ∙ there in
     either (Unread n s) (nat_le stream_limit (open_count s.streams)) (reply (reset_frame m 7) (opens m s))
     (if is_malformed_request fields then reply (reset_frame m 1) (opens m s) else accepted m ends fields s) (refused 7)
     (either (Unread n s) (is_malformed_request fields) (reply (reset_frame m 1) (opens m s)) (accepted m ends fields s) (refused 1) begun)
@@ -79,10 +79,10 @@ text_response m n ends fields st s c =
     (either (Unread n s) (is_malformed_response fields || is_informational fields) (refused_response m s) (headed m ends fields s) (text_refused m n s c)
     (text_headed m n ends fields s c)))
 
-text_head : (m n : ℕ) (ends : Bool) (fields : List Field) (s : State) → Rising 0 s.opened s.streams → Unread n s (head_of m ends fields s)
+text_head : (m n : ℕ) (ends : Bool) (fields : List Field) (s : State) → Rises 0 s.opened s.streams → Unread n s (head_of m ends fields s)
 unfolding head_of
 text_head m n ends fields s r =
-    let c : Climbs 0 s.streams = climbs 0 s.opened s.streams r in
+    let c : Climbs 0 s.streams = climbing 0 s.opened s.streams r in
     let at_client : Unread n s (if_open (stream_at s.streams m) s (λ st. response m ends fields st s)) =
     open_or (Unread n s) (stream_at s.streams m) s (λ st. response m ends fields st s) refl (λ st. text_response m n ends fields st s c) in
     let trailers : Unread n s (if_open (stream_at s.streams m) s (λ st. peer_ends m s)) =
@@ -92,11 +92,11 @@ text_head m n ends fields s r =
     (chosen (Unread n s) (nat_lt s.opened m) (request m ends fields s) (if_open (stream_at s.streams m) s (λ st. peer_ends m s))
     (λ t. text_request m n ends fields s r (ltb-true s.opened m t)) (λ t. trailers))
 
-text_decoded : (m n : ℕ) (ends : Bool) (s : State) (o : Result Progress HpackFault) → Rising 0 s.opened s.streams → Unread n s (decoded m ends s o)
+text_decoded : (m n : ℕ) (ends : Bool) (s : State) (o : Result Progress HpackFault) → Rises 0 s.opened s.streams → Unread n s (decoded m ends s o)
 text_decoded m n ends s (Ok p) r = text_head m n ends p.fields (record s { block = None; decoder = p.table }) r
 text_decoded m n ends s (Err e) r = refl
 
-text_block : (f : Frame) (n : ℕ) (s : State) → Rising 0 s.opened s.streams → Unread n s (block_of_headers f s)
+text_block : (f : Frame) (n : ℕ) (s : State) → Rises 0 s.opened s.streams → Unread n s (block_of_headers f s)
 unfolding block_of_headers block_grown
 text_block f n s r =
     either (Unread n s) (ends_block f) (decoded f.stream (block_ends s.block f) s (read_block s.decoder (block_with s f))) (block_grown f s)
@@ -205,12 +205,39 @@ data_effect s f e = first (f.kind == 0) _ _ e
     first true x y t = refl
     first false x y t = absurd cc
 
-text_effect : (f : Frame) (n : ℕ) (s : State) → Rising 0 s.opened s.streams → IsKeptAt s.streams n → ((f.kind == 3) && (f.stream == n)) ≡ false
+-- RST_STREAM of another stream
+text_reset : (f : Frame) (n : ℕ) (st : Stream) (s : State) → Climbs 0 s.streams → f.stream ≢ n → Unread n s (reset_of f st s)
+unfolding reset_of cut_off
+text_reset f n st s c other =
+    let cut : Stream → Stream = λ x. record (shut x) { text = [] } in
+    either (Unread n s) (is_client s.role && (number_at f.payload 0 == 0) && not st.peer_open) (on_stream f.stream shut s) (cut_off f.stream (number_at f.payload 0) st s)
+    (text_on f.stream n shut s (λ x. refl) (λ x. refl) c)
+    (text_tidied 0 n (change s.streams f.stream cut) (climbs_change 0 s.streams f.stream cut (λ x. refl) c) ∙ ap text_in (at_change s.streams f.stream n cut (λ x. refl) other))
+
+-- what is not DATA brings no text, where this holds of a reset
+pub text_other : (f : Frame) (n : ℕ) (s : State) → Rises 0 s.opened s.streams → (f.kind == 0) ≡ false
+    → ((f.kind == 3) ≡ true → (st : Stream) → stream_at s.streams f.stream ≡ Some st → is_open st ≡ true → Unread n s (reset_of f st s)) → Unread n s (effect s f)
+text_other f n s r kind reset =
+    by_kind (Unread n s) s f
+    (λ z. absurd cc)
+    (text_block f n s r)
+    (λ z. on_some z (stream_at s.streams f.stream) refl)
+    (text_as_seen (stream_at (settings f s).streams n) (stream_at s.streams n) (alike_all_settings f n s))
+    (ap text_in (same_ping f n s))
+    (ap text_in (same_goaway f n s))
+    (text_update f n s)
+    refl
+  where
+    on_some : (f.kind == 3) ≡ true → (o : Option Stream) → stream_at s.streams f.stream ≡ o → Unread n s (if_open o s (λ st. reset_of f st s))
+    on_some z None e = refl
+    on_some z (Some st) e = chosen (Unread n s) (is_open st) (reset_of f st s) s (reset z st e) (λ t. refl)
+
+pub text_effect : (f : Frame) (n : ℕ) (s : State) → Rises 0 s.opened s.streams → ((f.kind == 3) && (f.stream == n)) ≡ false
     → text_of (effect s f) n ≡ text_of s n ++ brought n s f
-text_effect f n s r kept h = by_test (f.kind == 0) refl
+text_effect f n s r h = by_test (f.kind == 0) refl
   where
     c : Climbs 0 s.streams
-    c = climbs 0 s.opened s.streams r
+    c = climbing 0 s.opened s.streams r
 
     apart : (f.kind == 3) ≡ true → f.stream ≢ n
     apart t = eqb-false f.stream n (sym (ap (λ b. b && (f.stream == n)) t) ∙ h)
@@ -219,19 +246,16 @@ text_effect f n s r kept h = by_test (f.kind == 0) refl
     by_test true t = ap (λ u. text_of u n) (data_effect s f t) ∙ text_data f n s c t
     by_test false t =
         unmoved n s (effect s f) f
-        (by_kind (Unread n s) s f
-        (λ z. absurd cc)
-        (text_block f n s r)
-        (λ z. open_or (Unread n s) (stream_at s.streams f.stream) s (λ st. reset_of f st s) refl (λ st. ap text_in (same_reset f n st s (apart z) kept)))
-        (text_as_seen (stream_at (settings f s).streams n) (stream_at s.streams n) (alike_all_settings f n s))
-        (ap text_in (same_ping f n s))
-        (ap text_in (same_goaway f n s))
-        (text_update f n s)
-        refl)
+        (text_other f n s r t (λ z st e o. text_reset f n st s c (apart z)))
         (brings_none n s f (ap (λ b. b && ((f.stream == n) && on_open s.streams n (λ st. true))) t))
 
-pub text_grows : TextGrows
+-- a frame that breaks no rule
+pub text_goes_on : (s : State) (f : Frame) (n : ℕ) → Rises 0 s.opened s.streams → s.failed ≡ None → verdict s f ≡ None → ((f.kind == 3) && (f.stream == n)) ≡ false
+    → text_of (after_frame s f) n ≡ text_of s n ++ brought n s f
 unfolding brought
-text_grows s f n h on v other =
+text_goes_on s f n r on v other =
     let judged_so : after_frame s f ≡ effect (record s { began = true }) f = after_frame-judged s f on ∙ ap (λ o. judged s f o) v in
-    ap (λ t. text_of t n) judged_so ∙ text_effect f n (record s { began = true }) h.rising (kept_at s.streams n h.kept) other
+    ap (λ t. text_of t n) judged_so ∙ text_effect f n (record s { began = true }) r other
+
+pub text_grows : TextGrows
+text_grows s f n h on v other = text_goes_on s f n (rises 0 s.opened s.streams h.rising) on v other

@@ -16,3 +16,7 @@ pub mod Verdicts
 pub mod Laws
 pub mod Wire
 pub mod Telling
+pub mod Hearing
+pub mod Opening
+pub mod InStep
+pub mod Preorder

@@ -4,6 +4,10 @@ ghost use Rattle.kn_h2_state.specs.declared.state.State.{State};
 ghost use Rattle.kn_h2_state.specs.Telling.{FramesTell, CallsTell, MovesAreQuiet, TextIsTold};
 ghost use Rattle.kn_h2_state.specs.Wire.{WireSplits, WrittenIsRead, HeadIsWritten, MovesAreWritten, FramesAreAnswered};
 ghost use Rattle.kn_h2_state.specs.Laws.{AnyPieces, FailsFirst, FramesLeaveOthers, MovesLeaveOthers, CallsLeaveOthers, BeginsLeaveOthers, TextGrows};
+ghost use Rattle.kn_h2_state.specs.Hearing.{FramesAreHeard, ClosedTextStays, ClosedStaysClosed};
+ghost use Rattle.kn_h2_state.specs.InStep.{NextIsRead};
+ghost use Rattle.kn_h2_state.specs.Preorder.{MoreIsHeard, FramesKeepMore, MoreIsAccepted, OwnStepsAreHeard, HearsMoreInTurn, OwnFactsBegin, OwnFactsAreKept};
+ghost use Rattle.kn_h2_state.specs.Opening.{FramesOpenAbove, AnsweredIsKept};
 
 /// While a connection has not failed, two pieces of its bytes are as good as their join.
 pub fn any_pieces()
@@ -72,4 +76,61 @@ pub fn ends_are_told()
 /// Text of a frame comes with its event.
 pub fn text_is_told()
     ensures { TextIsTold }
+{}
+
+/// While the peer's half of a stream stays open and the connection does not fail, the text that nobody took
+/// is the text before, followed by the contents of the stream's DATA frames, in order. A reset of another
+/// stream does not matter.
+pub fn frames_are_heard()
+    ensures { FramesAreHeard }
+{}
+
+/// Where the peer's half of a stream is closed, only a reset of the stream itself changes its text, and where
+/// the stream is closed, no frame does. A half that has closed stays closed.
+pub fn closed_text_stays()
+    ensures frame { ClosedTextStays }
+    ensures frames { ClosedStaysClosed }
+{}
+
+/// A stream that is told as opened has a number above all that were opened before.
+pub fn opened_is_above()
+    ensures { FramesOpenAbove }
+{}
+
+/// At a server only `answer` on the very stream answers it: a stream that comes is not answered, and through
+/// frames, moves and other calls each that stays is answered or not as it was.
+pub fn answered_is_kept()
+    ensures { AnsweredIsKept }
+{}
+
+/// The next block of an encoder is read as its list by a decoder that read all earlier ones, which then keeps
+/// no field, and none from the first block on.
+pub fn next_block_is_read()
+    ensures { NextIsRead }
+{
+    kn_hpack::round_trip_laws();
+    kn_hpack::block_laws();
+}
+
+/// Of two states one of which hears at least as much: a frame that breaks no rule in the other breaks none in
+/// this one, which hears at least as much after it too; and so through a list of frames.
+pub fn more_is_heard()
+    ensures rules { MoreIsHeard }
+    ensures frames { FramesKeepMore }
+    ensures lists { MoreIsAccepted }
+{}
+
+/// After each step of its own, an end hears at least as much of the peer as before: a move, or a call. One that
+/// hears as much as a second, which hears as much as a third, hears as much as this.
+pub fn own_steps_are_heard()
+    ensures steps { OwnStepsAreHeard }
+    ensures turns { HearsMoreInTurn }
+{}
+
+/// What these laws rest on holds of a new connection, and goes on to hold through frames, moves and calls: no
+/// header block of a client is of a stream that it never began, and an end tells its peer to stop only where its
+/// own half has ended.
+pub fn own_facts_stay()
+    ensures first { OwnFactsBegin }
+    ensures kept { OwnFactsAreKept }
 {}

@@ -41,8 +41,10 @@ pub use failing::{fail, reply, reply_frame, reply_reset};
 pub use head_decoder::{HeadDecoder, HeadError};
 pub use judgement::Judgement;
 pub use laws::{
-    any_pieces, ends_are_told, fails_first, frames_are_answered, heads_are_written,
-    moves_are_written, others_are_left, text_grows, text_is_told, wire_splits, written_is_read,
+    answered_is_kept, any_pieces, closed_text_stays, ends_are_told, fails_first,
+    frames_are_answered, frames_are_heard, heads_are_written, more_is_heard, moves_are_written,
+    next_block_is_read, opened_is_above, others_are_left, own_facts_stay, own_steps_are_heard,
+    text_grows, text_is_told, wire_splits, written_is_read,
 };
 pub use limits::{
     BLOCK_LIMIT, CONNECTION_WINDOW, DEFAULT_WINDOW, FRAME_LIMIT, FULL_OUT, GRANT_SIZE,
