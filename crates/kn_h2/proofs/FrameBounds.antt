@@ -110,7 +110,7 @@ holds_block_of_headers f s odd small short h =
 -- ---- a frame
 
 -- the block under way is of an odd stream, and so is the frame that goes on with it
-odd_block : (s : State) (f : Frame) → Holds s → Passes s f → (eqb f.kind 1 || eqb f.kind 9) ≡ true → f.stream % 2 ≡ 1
+pub odd_block : (s : State) (f : Frame) → Holds s → Passes s f → (eqb f.kind 1 || eqb f.kind 9) ≡ true → f.stream % 2 ≡ 1
 odd_block s f h p k = by_kind (eqb f.kind 1) (eqb f.kind 9) refl refl k
   where
     by_block : (o : Option Block) → IfSome o (λ b. (length b.bytes ≤ block_limit) × (b.stream % 2 ≡ 1) × (b.stream ≤ highest_stream)) → eqb f.kind 9 ≡ true

@@ -21,3 +21,9 @@ pub mod BeginLemmas
 pub mod AnswerLemmas
 pub mod CallBounds
 pub mod SteadyLaws
+pub mod WrittenLemmas
+pub mod CarriedLemmas
+pub mod OwnWindows
+pub mod AnsweredLemmas
+pub mod FrameWindows
+pub mod ConnectionWindows

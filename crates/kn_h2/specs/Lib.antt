@@ -6,3 +6,6 @@ pub mod Sending
 pub mod Blocks
 pub mod Connections
 pub mod Steady
+pub mod Written
+pub mod Windows
+pub mod Answered

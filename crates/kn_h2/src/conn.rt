@@ -1,4 +1,7 @@
-ghost use Rattle.std.specs.Prelude.{◌≡◌, ◌≢◌, ◌≤◌, ◌&&◌, [], ◌∷◌, length, min, not, true, false, MatchOption, IfOk, IfErr, OnOk, OnErr, Some, None};
+ghost use Rattle.std.specs.Prelude.{◌≡◌, ◌≢◌, ◌≤◌, ◌&&◌, [], ◌∷◌, length, min, not, true, false, is_some, MatchOption, IfOk, IfErr, OnOk, OnErr, Some, None};
+ghost use Rattle.std.specs.List.{AllByRecursion};
+ghost use Rattle.kn_frames.specs.Frames.{IsWithinLimits};
+ghost use Rattle.kn_frames.specs.Readers.{frames_in};
 ghost use Rattle.kn_h2_state.specs.Streams.{on_open};
 ghost use Rattle.kn_h2_state.specs.Rules.{is_client};
 ghost use Rattle.kn_h2_state.specs.Feeding.{after_piece};
@@ -56,7 +59,8 @@ impl Conn {
 
     /// Reads the next bytes of the peer. Where the connection has failed nothing is read.
     pub fn feed(&mut self, alloc: Global, piece: &[u8]) -> Result<(), NoMemory>
-        ensures { OnOk result (self.new ≡ after_piece self.old piece.now) }
+        ensures after { OnOk result (self.new ≡ after_piece self.old piece.now) }
+        ensures limits { OnOk result (is_some self.old.state.failed ≡ false → AllByRecursion IsWithinLimits (frames_in self.old.cutter piece.now)) }
     {
         match feed(&mut self.cutter, &mut self.state, alloc, piece) {
             Ok(()) => Ok(()),

@@ -1,4 +1,7 @@
 ghost use Rattle.std.specs.Prelude.{◌≡◌, OnOk, is_some, false};
+ghost use Rattle.std.specs.List.{AllByRecursion};
+ghost use Rattle.kn_frames.specs.Frames.{IsWithinLimits};
+ghost use Rattle.kn_frames.specs.Readers.{frames_in};
 ghost use Rattle.kn_h2_state.specs.Feeding.{after_piece, Connection};
 ghost use Rattle.kn_h2_state.specs.Holding.{Holds};
 ghost use Rattle.kn_h2.specs.Connections.{connection};
@@ -15,6 +18,7 @@ fn read(cutter: &mut Cutter, state: &mut State, alloc: Global, piece: &[u8]) -> 
     requires holds { Holds state.old }
     requires going { is_some state.old.failed ≡ false }
     ensures after { OnOk result (connection cutter.new state.new ≡ after_piece (connection cutter.old state.old) piece.now) }
+    ensures limits { OnOk result (AllByRecursion IsWithinLimits (frames_in cutter.old piece.now)) }
     ensures holds { OnOk result (Holds state.new) }
 {
     let mut frames = Vec::new(alloc);
@@ -41,6 +45,7 @@ pub fn feed(
 ) -> Result<(), NoMemory>
     requires { Holds state.old }
     ensures after { OnOk result (connection cutter.new state.new ≡ after_piece (connection cutter.old state.old) piece.now) }
+    ensures limits { OnOk result (is_some state.old.failed ≡ false → AllByRecursion IsWithinLimits (frames_in cutter.old piece.now)) }
     ensures holds { OnOk result (Holds state.new) }
 {
     if state.failed.is_some() {

@@ -2,6 +2,7 @@
 #![tactic(auto)]
 
 mod answers;
+mod call_laws;
 mod conn;
 mod conn_sending;
 mod ends;
@@ -31,6 +32,9 @@ mod taking;
 mod text;
 mod windows;
 
+pub use call_laws::{
+    answers_are_written, calls_are_written, windows_follow, windows_move, written_is_carried,
+};
 pub use conn::Conn;
 pub use kn_h2_state::{BeginRefusal, H2Event, QueueRefusal, Role};
 pub use laws::frames_keep;
@@ -38,4 +42,8 @@ pub use sending::sending_laws;
 pub use steady::{ends_are_written, moves_tell_nothing, role_stays};
 
 #[cfg(test)]
-mod tests;
+mod call_rows;
+#[cfg(test)]
+mod call_tests;
+#[cfg(test)]
+mod rule_tests;
