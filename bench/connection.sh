@@ -1,0 +1,37 @@
+#!/bin/sh
+# bench/connection.sh: how many megabytes a second go through the two ends of one HTTP/2 connection in one process,
+# from the client's queue to what the server takes: 1 MB on each of 1,000 connections, and 1 GB on one; and how many
+# the same program copies from one vector to another, in pieces of 16,384 bytes as they are queued. It builds the
+# program kn_bench_connection where it is missing.
+top=$(cd "$(dirname "$0")/.." && pwd) || exit 1
+program=$top/crates/kn_bench_connection/out/kn_bench_connection
+
+if [ ! -x "$program" ]; then
+    (cd "$top/crates/kn_bench_connection" && rt run >/dev/null 2>&1)
+    if [ ! -x "$program" ]; then
+        echo "bench: kn_bench_connection could not be built; see 'rt run' in crates/kn_bench_connection" >&2
+        exit 1
+    fi
+fi
+
+# Megabytes a second of so many bytes, so many times over, in the fastest of ten runs.
+speed() {
+    best=
+    for _ in 1 2 3 4 5 6 7 8 9 10; do
+        start=$(date +%s%N)
+        came=$("$program" "$1" "$2" "$3") || exit 1
+        taken=$(($(date +%s%N) - start))
+        if [ "$came" -ne $(($2 * $3)) ]; then
+            echo "bench: $came bytes came of $(($2 * $3))" >&2
+            exit 1
+        fi
+        if [ -z "$best" ] || [ "$taken" -lt "$best" ]; then best=$taken; fi
+    done
+    echo $(($2 * $3 * 1000 / best))
+}
+
+few=$(speed connection 1000000 1000) || exit 1
+many=$(speed connection 1000000000 1) || exit 1
+copied=$(speed copy 1000000000 10) || exit 1
+echo "connection: $few MB a second at 1 MB, $many at 1 GB, ratio $((few * 100 / many))/100"
+echo "copy: $copied MB a second, $((copied * 10 / many))/10 times the connection at 1 GB"
