@@ -1,5 +1,5 @@
 -- Apps, by their numbers.
-use Rattle.std.specs.Prelude.{ℕ, Bool, List, [], ◌∷◌, Option, Some, None}
+use Rattle.std.specs.Prelude.{ℕ, Bool, false, List, [], ◌∷◌, Option, Some, None}
 use Rattle.kn_packet.specs.declared.packet.Packet.{Packet}
 use Rattle.kn_edge_core.specs.declared.app.AppState.{AppState}
 use Rattle.kn_edge_core.specs.declared.app.AppState.TheVariants as state
@@ -96,5 +96,11 @@ abbrev pub refused : ℕ → App → App
 refused status a = door.refused status a
 
 -- it closes its end of the connection
+abbrev pub left_stage : Stage → Stage
+left_stage Dialling = Ended
+left_stage Open = Ended
+left_stage Refused = Refused
+left_stage Ended = Ended
+
 abbrev pub left_door : App → App
-left_door a = record a { stage = Ended; door = record a.door { early = [] } }
+left_door a = record a { stage = left_stage a.stage; door = record a.door { at_server = false; early = [] } }

@@ -1,5 +1,5 @@
 -- Clients and their streams: what enters a stream's lists and leaves them, and what a client's core does.
-use Rattle.std.specs.Prelude.{ℕ, ℤ, Bool, true, false, List, [], ◌∷◌, ◌++◌, length, Option, Some, None}
+use Rattle.std.specs.Prelude.{ℕ, ℤ, ◌&&◌, Bool, true, false, List, [], ◌∷◌, ◌++◌, length, Option, Some, None}
 use Rattle.std.specs.Option.{option_map}
 use Rattle.kn_packet.specs.declared.packet.Packet.{Packet}
 use Rattle.kn_tables.specs.Lists.{first_where}
@@ -13,7 +13,7 @@ use Rattle.kn_world.specs.declared.parts.Home.{Home}
 use Rattle.kn_world.specs.declared.parts.Home.TheVariants as home
 use Rattle.kn_world.specs.Numbers.{nth, or_none, first_of, rest_of}
 
--- a packet is queued to an end that still has the stream; to one that lost it, it is dropped
+-- a packet is queued where both ends have the stream; to an end that lost it, it is dropped
 abbrev pub with_up : Bool → Packet → Client → Client
 with_up true packet c = record c { up = c.up ++ packet ∷ [] }
 with_up false packet c = c
@@ -23,7 +23,7 @@ with_down true packet c = record c { down = c.down ++ packet ∷ [] }
 with_down false packet c = c
 
 abbrev pub queued_up : Packet → Client → Client
-queued_up packet c = with_up c.at_server packet c
+queued_up packet c = with_up (c.at_server && c.at_client) packet c
 
 abbrev pub queued_down : Packet → Client → Client
 queued_down packet c = with_down c.at_client packet c

@@ -1,5 +1,5 @@
 -- Apps by CONNECT: the server's packets reach them at once, as a reply, as bytes and as the end.
-use Rattle.std.specs.Prelude.{ℕ, ◌-◌, ◌==◌, ◌&&◌, not, nat_eq, min, Bool, true, false, List, [], ◌∷◌, ◌++◌, length, codes, if◌then◌else◌}
+use Rattle.std.specs.Prelude.{ℕ, ◌-◌, ◌==◌, ◌&&◌, ◌||◌, not, nat_eq, min, Bool, true, false, List, [], ◌∷◌, ◌++◌, length, codes, if◌then◌else◌}
 use Rattle.std.specs.Cmp.Lexicographic.{pointwise}
 use Rattle.kn_packet.specs.declared.packet.Packet.{Packet}
 use Rattle.kn_packet.specs.declared.packet.Packet.TheVariants.{DialReq, DialRsp, CloseReq, CloseRsp, Data, DialCls, Drain, Other}
@@ -119,12 +119,34 @@ heard (DialCls random) a = a
 heard Drain a = a
 heard (Other number) a = a
 
--- to an app that has left, or was refused, nothing comes
+-- a refusal, or the end of the tunnel
+abbrev pub finishes : Packet → Bool
+finishes (DialRsp [] connect_id random) = false
+finishes (DialRsp (x ∷ xs) connect_id random) = true
+finishes (CloseRsp error connect_id) = true
+finishes (DialReq protocol address random) = false
+finishes (CloseReq connect_id) = false
+finishes (Data connect_id error bytes) = false
+finishes (DialCls random) = false
+finishes Drain = false
+finishes (Other number) = false
+
+-- once its dial is answered, a refusal ends the tunnel like a close
+abbrev pub heard_open : Packet → App → App
+heard_open packet a = if finishes packet then closed a else heard packet a
+
+-- to an app that has left, or was refused, nothing comes but the end of the tunnel
+abbrev pub heard_late : Packet → App → App
+heard_late packet a = record a { door = record a.door { closing = a.door.closing || finishes packet } }
+
+abbrev pub heard_by : Stage → Packet → App → App
+heard_by Dialling packet a = heard packet a
+heard_by Open packet a = heard_open packet a
+heard_by Refused packet a = a
+heard_by Ended packet a = heard_late packet a
+
 abbrev pub heard_at : Stage → Packet → App → App
-heard_at Dialling packet a = heard packet a
-heard_at Open packet a = heard packet a
-heard_at Refused packet a = a
-heard_at Ended packet a = a
+heard_at stage packet a = if a.door.closing then a else heard_by stage packet a
 
 -- ---- what the app gives the server, which keeps it until the dial is answered
 abbrev pub data_of : ℕ → List ℕ → Packet
@@ -142,7 +164,7 @@ kept_count Ended a = 0
 -- ---- the head of the request is whole: the early bytes behind it are given to the server, and the rest waits
 abbrev pub head_read : ℕ → List ℕ → List ℕ → App → App
 head_read front early rest a = record a {
-  door = record a.door { number = front };
+  door = record a.door { number = front; at_server = true };
   side = side.sent rest (side.handed (length early) (side.sent early a.side));
 }
 

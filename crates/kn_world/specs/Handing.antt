@@ -42,13 +42,17 @@ abbrev pub early_pieces : App → ℕ
 early_pieces a = if nat_lt (length a.side.sending.passed) 16384 then min (pieces (length a.side.sending.waiting)) 1 else 0
 
 abbrev pub open_pieces : App → ℕ
-open_pieces a = if a.door.closing then 0 else pieces (length a.side.sending.waiting)
+open_pieces a = pieces (length a.side.sending.waiting)
 
-abbrev pub door_pieces : Stage → App → ℕ
-door_pieces Dialling a = early_pieces a
-door_pieces Open a = open_pieces a
-door_pieces Refused a = 0
-door_pieces Ended a = 0
+abbrev pub pieces_by : Stage → App → ℕ
+pieces_by Dialling a = early_pieces a
+pieces_by Open a = open_pieces a
+pieces_by Refused a = 0
+pieces_by Ended a = 0
+
+-- none once the server has ended the tunnel
+abbrev pub door_pieces : App → ℕ
+door_pieces a = if a.door.closing then 0 else pieces_by a.stage a
 
 -- of a client's app, while its tunnel is open
 abbrev pub pieces_at : Option AppState → ℕ → ℕ
@@ -63,7 +67,7 @@ client_pieces c number count cs = pieces_at (clients.state_at number (nth c cs))
 
 abbrev pub pieces_wanted : Home → App → List Client → ℕ
 pieces_wanted (home.Client c number) a cs = client_pieces c number (length a.side.sending.waiting) cs
-pieces_wanted home.Connect a cs = door_pieces a.stage a
+pieces_wanted home.Connect a cs = door_pieces a
 
 abbrev pub count_wanted_of : Option App → List Client → ℕ
 count_wanted_of None cs = 0

@@ -1,17 +1,15 @@
 -- Lists whose members are numbered from 1, and numbers as packets have them.
-use Rattle.std.specs.Prelude.{ℕ, ℤ, pos, negsuc, ◌-◌, ◌==◌, nat_lt, List, [], ◌∷◌, Option, Some, None, slice_get, slice_set, if◌then◌else◌}
+use Rattle.std.specs.Prelude.{ℕ, ℤ, zero, suc, pos, negsuc, nat_lt, List, [], ◌∷◌, Option, Some, None, slice_get, slice_set, if◌then◌else◌}
 
--- the index of a number, from 0; that of 0, which is no number, is beyond every list
-abbrev pub place_of : ℕ → ℕ
-place_of number = if number == 0 then 18446744073709551615 else number - 1
-
--- the member of a number
+-- the member of a number; 0 is the number of none
 abbrev pub nth : {X : Type 0} → ℕ → List X → Option X
-nth number xs = slice_get xs (place_of number)
+nth zero xs = None
+nth (suc index) xs = slice_get xs index
 
 -- the members, of which the one of a number is another one
 abbrev pub put_nth : {X : Type 0} → ℕ → List X → X → List X
-put_nth number xs x = slice_set xs (place_of number) x
+put_nth zero xs x = xs
+put_nth (suc index) xs x = slice_set xs index x
 
 -- the members, of which the one of a number, where there is one, is changed
 abbrev pub changed : {X : Type 0} → (X → X) → ℕ → List X → Option X → List X

@@ -25,7 +25,7 @@ abbrev pub new_client : ℕ → Client
 new_client front = record { core = client.start; up = []; down = []; front = front; at_server = true; at_client = true; apps = [] }
 
 abbrev pub new_door : Door
-new_door = record { front = []; number = 0; early = []; reply = 0; closing = false }
+new_door = record { front = []; number = 0; at_server = false; early = []; reply = 0; closing = false }
 
 abbrev pub new_app : Home → App
 new_app home = record { home = home; stage = Dialling; dial = 0; error = []; side = new_side; door = new_door }

@@ -261,12 +261,25 @@ pub fn refuse(
     }
 }
 
+// What an app that closes its end has come to: one that was refused stays so.
+fn left_stage(stage: Stage) -> Stage
+    ensures { result ≡ spec.left_stage stage }
+{
+    match stage {
+        Stage::Dialling => Stage::Ended,
+        Stage::Open => Stage::Ended,
+        Stage::Refused => Stage::Refused,
+        Stage::Ended => Stage::Ended,
+    }
+}
+
 /// An app by CONNECT closes its end of the connection.
 pub fn leave_door(alloc: Global, apps: &mut Numbered<App>, app: u64)
     ensures { apps.new ≡ change spec.left_door app apps.old }
 {
     if let Some(app) = apps.get_mut(app) {
-        app.stage = Stage::Ended;
+        app.stage = left_stage(app.stage);
+        app.door.at_server = false;
         app.door.early = Packets::new(alloc);
     }
 }

@@ -14,9 +14,9 @@ use kn_packet::Packet;
 use std::alloc::Global;
 
 fn push_up(client: &mut Client, packet: Packet) -> Result<(), NoMemory>
-    ensures { OnOk result (client.new ≡ spec.with_up client.old.at_server packet client.old) }
+    ensures { OnOk result (client.new ≡ spec.queued_up packet client.old) }
 {
-    if client.at_server {
+    if client.at_server && client.at_client {
         client.up.push(packet)
     } else {
         Ok(())

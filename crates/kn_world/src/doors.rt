@@ -209,15 +209,66 @@ fn hear(alloc: Global, app: &mut App, packet: &Packet) -> Result<(), NoMemory>
     }
 }
 
-/// A packet of the server comes to an app by CONNECT, where it has not left.
-pub fn hear_here(alloc: Global, app: &mut App, packet: &Packet) -> Result<(), NoMemory>
-    ensures { OnOk result (app.new ≡ spec.heard_at app.old.stage packet.now app.old) }
+/// Whether a packet is a refusal, or the end of the tunnel.
+fn finishes(packet: &Packet) -> bool
+    ensures { result ≡ spec.finishes packet.now }
+{
+    match packet {
+        Packet::DialRsp {
+            error,
+            connect_id: _,
+            random: _,
+        } => !error.is_empty(),
+        Packet::CloseRsp { .. } => true,
+        Packet::Data { .. } => false,
+        Packet::DialReq { .. } => false,
+        Packet::CloseReq { .. } => false,
+        Packet::DialCls { .. } => false,
+        Packet::Drain => false,
+        Packet::Other { .. } => false,
+    }
+}
+
+// A refusal ends an open tunnel like a close.
+fn hear_open(alloc: Global, app: &mut App, packet: &Packet) -> Result<(), NoMemory>
+    ensures { OnOk result (app.new ≡ spec.heard_open packet.now app.old) }
+{
+    if finishes(packet) {
+        close(app);
+        Ok(())
+    } else {
+        hear(alloc, app, packet)
+    }
+}
+
+fn hear_late(app: &mut App, packet: &Packet)
+    ensures { app.new ≡ spec.heard_late packet.now app.old }
+{
+    app.door.closing = app.door.closing || finishes(packet);
+}
+
+fn hear_by(alloc: Global, app: &mut App, packet: &Packet) -> Result<(), NoMemory>
+    ensures { OnOk result (app.new ≡ spec.heard_by app.old.stage packet.now app.old) }
 {
     match app.stage {
         Stage::Dialling => hear(alloc, app, packet),
-        Stage::Open => hear(alloc, app, packet),
+        Stage::Open => hear_open(alloc, app, packet),
         Stage::Refused => Ok(()),
-        Stage::Ended => Ok(()),
+        Stage::Ended => {
+            hear_late(app, packet);
+            Ok(())
+        }
+    }
+}
+
+/// A packet of the server comes to an app by CONNECT, unless the tunnel has ended.
+pub fn hear_here(alloc: Global, app: &mut App, packet: &Packet) -> Result<(), NoMemory>
+    ensures { OnOk result (app.new ≡ spec.heard_at app.old.stage packet.now app.old) }
+{
+    if app.door.closing {
+        Ok(())
+    } else {
+        hear_by(alloc, app, packet)
     }
 }
 
@@ -257,6 +308,7 @@ pub fn read_head(app: &mut App, front: u64, early: &[u8], rest: &[u8]) -> Result
     ensures { OnOk result (app.new ≡ spec.head_read front early.now rest.now app.old) }
 {
     app.door.number = front;
+    app.door.at_server = true;
     app.side.sending.append(early)?;
     app.side.sending.pass(early.len());
     app.side.sending.append(rest)

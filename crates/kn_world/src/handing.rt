@@ -71,15 +71,11 @@ fn early_pieces(app: &App) -> usize
 fn open_pieces(app: &App) -> usize
     ensures { result ≡ spec.open_pieces app.now }
 {
-    if app.door.closing {
-        0
-    } else {
-        pieces(app.side.sending.waiting_count())
-    }
+    pieces(app.side.sending.waiting_count())
 }
 
-fn door_pieces(app: &App) -> usize
-    ensures { result ≡ spec.door_pieces app.now.stage app.now }
+fn pieces_by(app: &App) -> usize
+    ensures { result ≡ spec.pieces_by app.now.stage app.now }
 {
     match app.stage {
         Stage::Dialling => early_pieces(app),
@@ -87,6 +83,12 @@ fn door_pieces(app: &App) -> usize
         Stage::Refused => 0,
         Stage::Ended => 0,
     }
+}
+
+fn door_pieces(app: &App) -> usize
+    ensures { result ≡ spec.door_pieces app.now }
+{
+    if app.door.closing { 0 } else { pieces_by(app) }
 }
 
 fn client_pieces(clients: &Numbered<Client>, client: u64, number: u64, count: usize) -> usize

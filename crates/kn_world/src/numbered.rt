@@ -1,20 +1,9 @@
 ghost use Rattle.std.specs.Prelude.{◌≡◌, [], ◌∷◌, ◌++◌, Some, None, length, ◌+◌, IfOk, OnOk, MatchOption};
-ghost use Rattle.kn_world.specs.Numbers.{place_of, nth, put_nth};
+ghost use Rattle.kn_world.specs.Numbers.{nth, put_nth};
 
 use kn_io::NoMemory;
 use std::alloc::Global;
 use std::marker::Model;
-
-// The index of a number. That of 0, which is no number, is beyond every list.
-fn place_of(number: u64) -> usize
-    ensures { result ≡ place_of number }
-{
-    if number == 0 {
-        usize::MAX
-    } else {
-        number as usize - 1
-    }
-}
 
 /// A list whose members are numbered from 1. Contracts see the list. Each call takes constant time.
 #[derive(Drop)]
@@ -80,7 +69,11 @@ impl<T: Drop> Numbered<T> {
     pub fn get(&self, number: u64) -> Option<&T>
         ensures { MatchOption result (nth number self.now ≡ None) (λ x. nth number self.now ≡ Some x.now) }
     {
-        self.items.get(place_of(number))
+        if number == 0 {
+            None
+        } else {
+            self.items.get(number as usize - 1)
+        }
     }
 
     /// The member of a number, to be changed. Of 0 there is none.
@@ -88,6 +81,10 @@ impl<T: Drop> Numbered<T> {
         ensures value { MatchOption result (nth number self.old ≡ None) (λ x. nth number self.old ≡ Some x.now) }
         ensures* writes_back { sem 𝓛 (LendsIf (the_row T.row) T.row self.entry result (put_nth number self.old) self.old) }
     {
-        self.items.get_mut(place_of(number))
+        if number == 0 {
+            None
+        } else {
+            self.items.get_mut(number as usize - 1)
+        }
     }
 }

@@ -81,6 +81,8 @@ pub struct Door {
     pub front: ConnectFront,
     /// The number of its front, 0 before its head is whole.
     pub number: u64,
+    /// Whether the server has the front.
+    pub at_server: bool,
     /// Bytes that it was given, as packets that the server has not taken.
     pub early: Packets,
     /// How many bytes of the reply the app has still to take.

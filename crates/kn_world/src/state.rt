@@ -78,6 +78,7 @@ impl Door {
         Door {
             front: ConnectFront::new(alloc),
             number: 0,
+            at_server: false,
             early: Packets::new(alloc),
             reply: 0,
             closing: false,
