@@ -1,0 +1,19 @@
+//! The world that runs, in the packet world: what its events do is done by moves of that world alone.
+//! It has no code that runs: its functions are laws.
+#![tactic(auto)]
+
+mod agent_laws;
+mod choice_laws;
+mod client_laws;
+mod connect_laws;
+mod laws;
+mod server_event_laws;
+mod server_laws;
+
+pub use agent_laws::{agents_lead, destinations_lead};
+pub use choice_laws::requests_go_where_picked;
+pub use client_laws::{client_apps_lead, clients_lead};
+pub use connect_laws::connects_lead;
+pub use laws::{events_are_moves, worlds_begin_alike, worlds_keep_their_promises};
+pub use server_event_laws::server_events_lead;
+pub use server_laws::server_steps_are_moves;
