@@ -17,13 +17,9 @@ use Rattle.kn_refinement.specs.Fits.{AskedFits, ClientFits, Fits, FrontFits}
 use Rattle.kn_refinement.proofs.ClientBecame.{Noted}
 use Rattle.kn_refinement.proofs.ClientKept.{all_noted}
 use Rattle.kn_refinement.proofs.ClientStepped.{client_of_home, is_connect, number_of_home, some_same}
-use Rattle.kn_refinement.proofs.NumberLemmas.{nth_front, nth_more, nth_within}
+use Rattle.kn_refinement.proofs.NumberLemmas.{length_more, nth_front, nth_more, nth_within}
 
 -- ---- a list with one member more
-pub length_more : {X : Type 0} (xs : List X) (x : X) → length (xs ++ x ∷ []) ≡ suc (length xs)
-length_more [] x = refl
-length_more (z ∷ xs) x = ap suc (length_more xs x)
-
 none_after : {X : Type 0} (xs : List X) → slice_get xs (length xs) ≡ None
 none_after [] = refl
 none_after (x ∷ xs) = none_after xs

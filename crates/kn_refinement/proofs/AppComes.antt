@@ -33,7 +33,7 @@ use Rattle.kn_world.specs.States.{new_app, new_side}
 use Rattle.kn_refinement.specs.Fits.{Fits}
 use Rattle.kn_refinement.specs.Leads.{Leads}
 use Rattle.kn_refinement.specs.Shown.{app_at_home, app_of, client_app, client_of, client_stream, connect_stream, is_told, shown, side_of, stream_of}
-use Rattle.kn_refinement.proofs.AppArrives.{Told, arrived_fits, length_more, nth_beyond, nth_last}
+use Rattle.kn_refinement.proofs.AppArrives.{Told, arrived_fits, nth_beyond, nth_last}
 use Rattle.kn_refinement.proofs.AppChanges.{its_stream}
 use Rattle.kn_refinement.proofs.Changes.{changed_other, changed_own}
 use Rattle.kn_refinement.proofs.ClientBecame.{Noted, app_became}
@@ -42,7 +42,7 @@ use Rattle.kn_refinement.proofs.ClientKept.{all_noted}
 use Rattle.kn_refinement.proofs.ClientShown.{app_stepped, connected_app, no_app_stepped, other_app, own_app, queued_not, shown_as}
 use Rattle.kn_refinement.proofs.ClientStepped.{some_same}
 use Rattle.kn_refinement.proofs.ClientTurns.{Turns, as_it_was}
-use Rattle.kn_refinement.proofs.NumberLemmas.{nth_more, nth_within}
+use Rattle.kn_refinement.proofs.NumberLemmas.{length_more, nth_more, nth_within}
 use Rattle.kn_refinement.proofs.Worlds.{apps_same, leads_none, leads_one, worlds_same}
 
 not_above : (n : ℕ) → nat_lt n n ≡ false

@@ -1,6 +1,6 @@
 -- An app of a client sends bytes, which go to its client piece by piece while its tunnel is open, and ends.
-use Rattle.std.proofs.Common.{◌≡◌, ◌&&◌, ◌||◌, ◌≤◌, ◌<◌, ℕ, zero, suc, Bool, true, false, not, List, [], ◌∷◌, take, Option, Some, None, refl, sym, ap, ◌∙◌, subst, arith}
-use Rattle.std.specs.Prelude.{nat_lt, slice_get, slice_set}
+use Rattle.std.proofs.Common.{◌≡◌, ◌&&◌, ◌||◌, ◌≤◌, ◌<◌, ℕ, zero, suc, Bool, true, false, not, List, take, Option, Some, None, refl, sym, ap, ◌∙◌, subst, arith}
+use Rattle.std.specs.Prelude.{nat_lt, slice_set}
 use Rattle.std.proofs.lemmas.Bool.{ltb-true}
 use Rattle.kn_tables.specs.Lists.{IsRising, first_where}
 use Rattle.kn_edge_core.specs.Client as edge
@@ -33,6 +33,7 @@ use Rattle.kn_refinement.proofs.ClientKept.{AppKept, AppsKept, ClientKept, Clien
 use Rattle.kn_refinement.proofs.ClientStepped.{is_connect, its_client, step_fits, step_keeps_apps, step_keeps_clients, step_shown}
 use Rattle.kn_refinement.proofs.ClientTurns.{IsOfApps, may_open}
 use Rattle.kn_refinement.proofs.Worlds.{KeysGoOn, leads_none, leads_one}
+use Rattle.kn_refinement.proofs.Changes.{set_as_was}
 
 -- ---- a step that a change comes before is one move
 pub then_step : (s t : State) (c : ℕ) (e : ClientEvent) (x : Client) (m : Move) → Fits t → nth c t.clients ≡ Some x → IsRising (λ (y : ListedApp). y.number) x.core.apps → IsOfApps e → ((n : ℕ) → may_open e n ≡ false)
@@ -44,11 +45,6 @@ then_step s t c e x m fits there rising of_apps none apps clients may made = rec
 }
 
 -- ---- an event that its client ignores
-set_as_was : {X : Type 0} (xs : List X) (i : ℕ) (x : X) → slice_get xs i ≡ Some x → slice_set xs i x ≡ xs
-set_as_was [] i x h = refl
-set_as_was (z ∷ xs) zero x h = let e : x ≡ z = sym cc in ap (λ y. y ∷ xs) e
-set_as_was (z ∷ xs) (suc i) x h = ap (λ ys. z ∷ ys) (set_as_was xs i x h)
-
 pub changed_as_was : {X : Type 0} (f : X → X) (n : ℕ) (xs : List X) (x : X) → nth n xs ≡ Some x → f x ≡ x → change f n xs ≡ xs
 changed_as_was f zero xs x h same = absurd cc
 changed_as_was f (suc i) xs x h same = ap (λ o. changed f (suc i) xs o) h ∙ ap (λ y. slice_set xs i y) same ∙ set_as_was xs i x h

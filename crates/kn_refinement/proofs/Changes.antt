@@ -6,7 +6,7 @@ use Rattle.kn_world.specs.Numbers.{change, changed, nth}
 use Rattle.kn_refinement.proofs.NumberLemmas.{nth_change, set_same}
 
 -- a member that is put where it was
-set_as_was : {X : Type 0} (xs : List X) (i : ℕ) (x : X) → slice_get xs i ≡ Some x → slice_set xs i x ≡ xs
+pub set_as_was : {X : Type 0} (xs : List X) (i : ℕ) (x : X) → slice_get xs i ≡ Some x → slice_set xs i x ≡ xs
 set_as_was [] i x h = refl
 set_as_was (z ∷ xs) zero x h = let e : x ≡ z = sym cc in ap (λ y. y ∷ xs) e
 set_as_was (z ∷ xs) (suc i) x h = ap (λ ys. z ∷ ys) (set_as_was xs i x h)

@@ -32,8 +32,8 @@ use Rattle.kn_refinement.proofs.ConnectRequests.{emptying, plainly, taken_plainl
 use Rattle.kn_refinement.proofs.ConnectServed.{plain_serves}
 use Rattle.kn_refinement.proofs.ConnectSettles.{settles_leads, unheard_shown}
 use Rattle.kn_refinement.proofs.ConnectTakes.{kept_leads}
-use Rattle.kn_refinement.proofs.FitsServer.{length_more}
 use Rattle.kn_refinement.proofs.Worlds.{KeysGoOn, leads_none, leads_then}
+use Rattle.kn_refinement.proofs.NumberLemmas.{length_more}
 
 -- ---- a head that is at fault: the app is refused
 abbrev faulted : ℕ → App → App

@@ -35,11 +35,12 @@ use Rattle.kn_refinement.proofs.ConnectRequests.{kept_as_one}
 use Rattle.kn_refinement.proofs.ConnectServed.{plain_serves}
 use Rattle.kn_refinement.proofs.ConnectSettles.{settles_tied}
 use Rattle.kn_refinement.proofs.ConnectWorlds.{Reached, early_up, head_app, head_reached, head_side, head_stream, headed, may_take, takes_is}
-use Rattle.kn_refinement.proofs.FitsServer.{length_more, step_fits}
+use Rattle.kn_refinement.proofs.FitsServer.{step_fits}
 use Rattle.kn_refinement.proofs.Pairs.{came_last}
 use Rattle.kn_refinement.proofs.ServerReached.{links_known, server_reached}
 use Rattle.kn_refinement.proofs.SettledRuns.{Reaches}
 use Rattle.kn_refinement.proofs.Worlds.{KeysGoOn, apps_same, leads_then, makes_join, sides_same, streams_same}
+use Rattle.kn_refinement.proofs.NumberLemmas.{length_more}
 
 -- ---- an app whose head is whole
 module _ (go : KeysGoOn) (s : State) (k : ℕ) (a : App) (fits : Fits s) (keys : Keys (shown s)) (there : nth k s.apps ≡ Some a) (at_door : a.home ≡ home.Connect) (number : a.door.number ≡ 0) (dialling : a.stage ≡ stage.Dialling) (target early rest : List ℕ) where

@@ -35,6 +35,7 @@ use Rattle.kn_refinement.proofs.ServerDials.{IsNoDial}
 use Rattle.kn_refinement.proofs.ServerLinks.{HasAgent}
 use Rattle.kn_refinement.proofs.ServerRules.{ComesUp, IsDrawn, IsRuled, ruled, still_up}
 use Rattle.kn_refinement.proofs.ServerSteps.{LinksKnown, next_is}
+use Rattle.kn_refinement.proofs.NumberLemmas.{length_more}
 
 -- ---- one output that makes no dial
 pub asked_fit : (ds : List Dial) (old new : List App) → Paired (λ k a b. b.dial ≡ a.dial) old new → AskedFits ds old → AskedFits ds new
@@ -103,10 +104,6 @@ server_fits s t same known fits = record {
 }
 
 -- ---- a dial is made
-pub length_more : {X : Type 0} (xs : List X) (x : X) → length (xs ++ x ∷ []) ≡ suc (length xs)
-length_more [] x = refl
-length_more (y ∷ xs) x = ap suc (length_more xs x)
-
 pub plus_one : (n : ℕ) → n + 1 ≡ suc n
 plus_one n = omega arith
 

@@ -30,10 +30,10 @@ use Rattle.kn_refinement.specs.Shown.{client_stream, connect_stream, front_if, s
 use Rattle.kn_refinement.proofs.Changes.{changed_own}
 use Rattle.kn_refinement.proofs.FitsClients.{ClientKept, client_more_fits, clients_kept, front_more_fits, lost_kept, rest_kept}
 use Rattle.kn_refinement.proofs.FitsHeard.{MayHaveDial}
-use Rattle.kn_refinement.proofs.FitsServer.{MayStep, client_fits, length_more, plus_one, step_fits}
+use Rattle.kn_refinement.proofs.FitsServer.{MayStep, client_fits, plus_one, step_fits}
 use Rattle.kn_refinement.proofs.FrontRequests.{asker_may}
 use Rattle.kn_refinement.proofs.LeadsLinks.{links_known, quiet_step}
-use Rattle.kn_refinement.proofs.NumberLemmas.{nth_none, nth_within}
+use Rattle.kn_refinement.proofs.NumberLemmas.{length_more, nth_none, nth_within}
 use Rattle.kn_refinement.proofs.Pairs.{Paired, came_last}
 use Rattle.kn_refinement.proofs.ServerAsks.{AskedAt}
 use Rattle.kn_refinement.proofs.ServerReached.{server_leads, server_reached}

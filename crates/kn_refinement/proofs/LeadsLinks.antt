@@ -25,8 +25,8 @@ use Rattle.kn_refinement.specs.Fits.{Fits}
 use Rattle.kn_refinement.specs.Leads.{Leads}
 use Rattle.kn_refinement.specs.Shown.{link_of, shown}
 use Rattle.kn_refinement.proofs.FitsAgents.{AgentKept, agent_more_fits, agents_kept, lost_kept, rest_kept}
-use Rattle.kn_refinement.proofs.FitsServer.{MayStep, agent_fits, length_more}
-use Rattle.kn_refinement.proofs.NumberLemmas.{nth_none}
+use Rattle.kn_refinement.proofs.FitsServer.{MayStep, agent_fits}
+use Rattle.kn_refinement.proofs.NumberLemmas.{length_more, nth_none}
 use Rattle.kn_refinement.proofs.Pairs.{was_still}
 use Rattle.kn_refinement.proofs.ServerLinks.{HasAgent}
 use Rattle.kn_refinement.proofs.ServerReached.{server_leads}

@@ -86,6 +86,10 @@ nth_more xs x (suc i) = by (i == length xs) refl ∙ ap (λ b. cond b (Some x) (
     by true e = ap (λ j. slice_get (xs ++ x ∷ []) j) (eqb-true i (length xs) e) ∙ get_last xs x
     by false e = get_more xs x i e
 
+pub length_more : {X : Type 0} (xs : List X) (x : X) → length (xs ++ x ∷ []) ≡ suc (length xs)
+length_more [] x = refl
+length_more (z ∷ xs) x = ap suc (length_more xs x)
+
 pub nth_front : {X : Type 0} (xs ys : List X) (n : ℕ) (x : X) → nth n xs ≡ Some x → nth n (xs ++ ys) ≡ Some x
 nth_front xs ys zero x h = absurd cc
 nth_front xs ys (suc i) x h = get_front xs ys i x h

@@ -19,10 +19,7 @@ pub use Rattle.kn_refinement.specs.Asking.{AskedAt}
 use Rattle.kn_refinement.specs.Fits.{ClientFits, FrontFits}
 use Rattle.kn_refinement.specs.Shown.{number_if}
 use Rattle.kn_refinement.proofs.DoorsKept.{dial_noted, noted}
-use Rattle.kn_refinement.proofs.ServerStreams.{number_same, same_test}
-
-pub some_same : {X : Type 0} {x y : X} → Some x ≡ Some y → x ≡ y
-some_same e = cc
+use Rattle.kn_refinement.proofs.ServerStreams.{number_same, same_test, some_same}
 
 client_same : {c d n m : ℕ} → home.Client c n ≡ home.Client d m → c ≡ d
 client_same e = cc

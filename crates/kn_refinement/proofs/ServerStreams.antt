@@ -62,7 +62,7 @@ app_owns k None h = absurd cc
 app_owns k (Some (owner.Client c)) h = absurd cc
 app_owns k (Some (owner.App other)) h = ap (λ n. Some (owner.App n)) (sym (eqb-true k other h))
 
-some_same : {X : Type 0} {x y : X} → Some x ≡ Some y → x ≡ y
+pub some_same : {X : Type 0} {x y : X} → Some x ≡ Some y → x ≡ y
 some_same e = cc
 
 module _ (cs : List Client) (ks : List App) (fronts : List Owner) (up : FrontList) (fits : FrontFits cs ks fronts up) where
