@@ -26,7 +26,7 @@ use Rattle.kn_h2_state.specs.Calls.{queue_in, queue_of, next_number}
 use Rattle.kn_h2_state.specs.Holding.{Holds, HasSum, HasRoom}
 use Rattle.kn_h2_state.specs.Wire.{frame_text, texts_in, frame_grant, grants_in, data_length, data_lengths_in, is_end, ends_in, frame, WrittenIsRead, more_list, head_list, end_list, made_frames, move_frames, moved_text, MovesAreWritten}
 use Rattle.kn_h2.specs.Finding.{owed_in}
-use Rattle.kn_h2.specs.Sending.{sent_by, sent}
+use Rattle.kn_h2.specs.Sending.{sent}
 use Rattle.kn_h2.specs.Written.{opening_list, OpeningIsWritten, OpeningsAreCarried, is_flooded, goaway_list, replied, begin_list, answer_list, reset_list, CallsAreWritten, moves_list, FillsAreWritten, Brings, once, CallsAreCarried, granted_by, ended_by, MovesBring, granted_in, ended_in, FillsBring}
 use Rattle.kn_h2.proofs.StreamLemmas.{all_at}
 use Rattle.kn_h2.proofs.FoundLemmas.{found_open}
@@ -330,13 +330,6 @@ pub moves_bring : WrittenIsRead → MovesAreWritten → MovesBring
 moves_bring read written s m n h ok =
     brings read n (move_frames s m) (moved_text n s m) (granted_by n s m) (length (moved_text n s m)) (ended_by n m) (written s m h ok).limits (move_sums written s m n h ok)
 
-moved_is : (n : ℕ) (s : State) (m : Move) → moved_text n s m ≡ sent_by n s m
-moved_is n s GrantAll = refl
-moved_is n s (Grant k) = refl
-moved_is n s (Send k count) = refl
-moved_is n s (End k) = refl
-moved_is n s (Stop k) = refl
-
 fill_sums : MovesAreWritten → (old new : State) (ms : List Move) (n : ℕ) → Holds old → Makes old ms new → Sums n (moves_list old ms) (sent n old ms) (granted_in n old ms) (length (sent n old ms)) (ended_in n ms)
 unfolding texts_in grants_in data_lengths_in ends_in
 fill_sums written old new [] n h makes = record { text = refl; grants = refl; taken = refl; ends = refl }
@@ -345,11 +338,10 @@ fill_sums written old new (m ∷ ms) n h makes =
     let one = move_sums written old m n h makes.0 in
     let rest = fill_sums written next new ms n (move_keeps old m h makes.0) makes.1 in
     let both = sums_on n (move_frames old m) (moves_list next ms) (moved_text n old m) (sent n next ms) (granted_by n old m) (granted_in n next ms) (length (moved_text n old m)) (length (sent n next ms)) (ended_by n m) (ended_in n ms) one rest in
-    let same = moved_is n old m in
     record {
-      text = both.text ∙ ap (λ (l : List ℕ). l ++ sent n next ms) same;
+      text = both.text;
       grants = both.grants;
-      taken = both.taken ∙ ap (λ (l : List ℕ). length l + length (sent n next ms)) same ∙ sym (length-append (sent_by n old m) (sent n next ms));
+      taken = both.taken ∙ sym (length-append (moved_text n old m) (sent n next ms));
       ends = both.ends;
     }
 

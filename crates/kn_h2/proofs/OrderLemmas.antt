@@ -12,13 +12,14 @@ use Rattle.kn_h2_state.specs.Streams.{stream_at, change, tidied}
 use Rattle.kn_h2_state.specs.Moves.{may, is_owed, can_send, can_end, can_stop, made, after_move, granted, sent_some, own_ended, stopped, target, Makes}
 use Rattle.kn_h2_state.specs.Calls.{queue_in, queue_of}
 use Rattle.kn_h2_state.specs.Holding.{Holds, is_at_rest}
-use Rattle.kn_h2.specs.Sending.{sent_by, sent, spent_by, spent}
+use Rattle.kn_h2_state.specs.Wire.{moved_text}
+use Rattle.kn_h2.specs.Sending.{sent, spent_by, spent}
 use Rattle.kn_h2.proofs.StreamLemmas.{all_change, rising_change}
 use Rattle.kn_h2.proofs.FoundLemmas.{found_open}
 use Rattle.kn_h2.proofs.PlaceLemmas.{at_changed, at_other, queue_changed, queue_tidied}
 use Rattle.kn_h2.proofs.MoveLemmas.{move_parts, move_keeps, end_parts, ended_rest}
 
-send_order : (s : State) (k count n : ℕ) (st : Stream) → stream_at s.streams k ≡ Some st → sent_by n s (Send k count) ++ queue_of (made s (Send k count) (Some st)) n ≡ queue_of s n
+send_order : (s : State) (k count n : ℕ) (st : Stream) → stream_at s.streams k ≡ Some st → moved_text n s (Send k count) ++ queue_of (made s (Send k count) (Some st)) n ≡ queue_of s n
 send_order s k count n st found = by_test (eqb k n) refl
   where
     by_test : (b : Bool) → eqb k n ≡ b → cond b (take count (queue_of s n)) [] ++ queue_in (stream_at (change s.streams k (sent_some count)) n) ≡ queue_of s n
@@ -44,7 +45,7 @@ stop_order s k n holds =
     ∙ queue_changed s.streams k n stopped (λ _. refl) (λ _. refl)
 
 -- what a move sends, and then what waits, is what waited
-pub move_order : (s : State) (m : Move) (n : ℕ) → Holds s → may s m ≡ true → sent_by n s m ++ queue_of (after_move s m) n ≡ queue_of s n
+pub move_order : (s : State) (m : Move) (n : ℕ) → Holds s → may s m ≡ true → moved_text n s m ++ queue_of (after_move s m) n ≡ queue_of s n
 unfolding after_move
 move_order s GrantAll n holds ok = refl
 move_order s (Grant k) n holds ok =
@@ -52,7 +53,7 @@ move_order s (Grant k) n holds ok =
     subst (λ (o : Option Stream). queue_of (made s (Grant k) o) n ≡ queue_of s n) (sym here.1.found) (queue_changed s.streams k n granted (λ _. refl) (λ _. refl))
 move_order s (Send k count) n holds ok =
     let here = found_open s.streams k (can_send count s.send) (move_parts s (Send k count) ok).due in
-    subst (λ (o : Option Stream). sent_by n s (Send k count) ++ queue_of (made s (Send k count) o) n ≡ queue_of s n) (sym here.1.found) (send_order s k count n here.0 here.1.found)
+    subst (λ (o : Option Stream). moved_text n s (Send k count) ++ queue_of (made s (Send k count) o) n ≡ queue_of s n) (sym here.1.found) (send_order s k count n here.0 here.1.found)
 move_order s (End k) n holds ok =
     let here = found_open s.streams k can_end (move_parts s (End k) ok).due in
     subst (λ (o : Option Stream). queue_of (made s (End k) o) n ≡ queue_of s n) (sym here.1.found) (end_order s k n (not (is_client s.role)) here.0 holds here.1.found here.1.passed)
@@ -64,8 +65,8 @@ pub in_order : (old new : State) (ms : List Move) (n : ℕ) → Holds old → Ma
 in_order old new [] n holds e = ap (λ (s : State). queue_of s n) e
 in_order old new (m ∷ ms) n holds makes =
     let later = in_order (after_move old m) new ms n (move_keeps old m holds makes.0) makes.1 in
-    append_assoc (sent_by n old m) (sent n (after_move old m) ms) (queue_of new n)
-    ∙ ap (λ (xs : List ℕ). sent_by n old m ++ xs) later
+    append_assoc (moved_text n old m) (sent n (after_move old m) ms) (queue_of new n)
+    ∙ ap (λ (xs : List ℕ). moved_text n old m ++ xs) later
     ∙ move_order old m n holds makes.0
 
 -- ---- windows

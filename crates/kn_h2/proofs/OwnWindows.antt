@@ -12,8 +12,9 @@ use Rattle.kn_h2_state.specs.Streams.{stream_at, change, is_kept, tidied}
 use Rattle.kn_h2_state.specs.Moves.{is_owed, can_send, can_end, can_stop, made, after_move, granted, sent_some, own_ended, stopped, target, Makes}
 use Rattle.kn_h2_state.specs.Calls.{queue_in, queue_of}
 use Rattle.kn_h2_state.specs.Holding.{Rising, Holds}
+use Rattle.kn_h2_state.specs.Wire.{moved_text}
 use Rattle.kn_h2.specs.Finding.{owed_in}
-use Rattle.kn_h2.specs.Sending.{sent_by, sent}
+use Rattle.kn_h2.specs.Sending.{sent}
 use Rattle.kn_h2.specs.Written.{granted_by, granted_in}
 use Rattle.kn_h2.specs.Windows.{Windows, MoveShifts, MovesShift, ConnectionRises}
 use Rattle.kn_h2.proofs.StreamLemmas.{change_none, rising_change}
@@ -91,8 +92,8 @@ grant_shifts s k n st new e after = changed s.streams k n granted st new [] (gra
     other t = subst (λ (b : Bool). Windows st st [] (cond b (owed_in (stream_at s.streams k)) 0)) (sym t) (unmoved st)
 
 send_shifts : (s : State) (k count n : ℕ) (sender st new : Stream) → stream_at s.streams k ≡ Some sender → count ≤ length sender.queue → stream_at s.streams n ≡ Some st → stream_at (change s.streams k (sent_some count)) n ≡ Some new
-    → Windows st new (sent_by n s (Send k count)) 0
-send_shifts s k count n sender st new found waits e after = changed s.streams k n (sent_some count) st new (sent_by n s (Send k count)) 0 (λ _. refl) e after own other
+    → Windows st new (moved_text n s (Send k count)) 0
+send_shifts s k count n sender st new found waits e after = changed s.streams k n (sent_some count) st new (moved_text n s (Send k count)) 0 (λ _. refl) e after own other
   where
     own : eqb k n ≡ true → Windows st (sent_some count st) (cond (eqb k n) (take count (queue_of s n)) []) 0
     own t =
@@ -180,7 +181,7 @@ moves_shift old new (m ∷ ms) n st last h makes e after =
         → Windows st last (sent n old (m ∷ ms)) (granted_in n old (m ∷ ms))
     by_mid None gone rest = let none = none_comes (after_move old m) new ms n makes.1 gone in absurd cc
     by_mid (Some mid) found rest =
-        then st mid last (sent_by n old m) (sent n (after_move old m) ms) (granted_by n old m) (granted_in n (after_move old m) ms)
+        then st mid last (moved_text n old m) (sent n (after_move old m) ms) (granted_by n old m) (granted_in n (after_move old m) ms)
         (move_shifts old m n st mid h makes.0 e found) (rest mid found)
 
 -- ---- the connection

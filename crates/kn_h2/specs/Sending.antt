@@ -1,28 +1,21 @@
 -- Laws of what is written where there is room for it.
-use Rattle.std.specs.Prelude.{◌≡◌, ℕ, pos, ◌+◌, ◌-ℤ◌, ◌==◌, true, List, [], ◌∷◌, ◌++◌, take, if◌then◌else◌}
+use Rattle.std.specs.Prelude.{◌≡◌, ℕ, pos, ◌+◌, ◌-ℤ◌, true, List, [], ◌∷◌, ◌++◌}
 use Rattle.kn_h2_state.specs.declared.moves.Move.{Move}
 use Rattle.kn_h2_state.specs.declared.moves.Move.TheVariants.{GrantAll, Grant, Send, End, Stop}
 use Rattle.kn_h2_state.specs.declared.state.State.{State}
 use Rattle.kn_h2_state.specs.Moves.{may, after_move, Makes}
 use Rattle.kn_h2_state.specs.Calls.{queue_of}
 use Rattle.kn_h2_state.specs.Holding.{Holds}
+use Rattle.kn_h2_state.specs.Wire.{moved_text}
 
 -- what always holds goes on to hold
 abbrev pub MoveKeeps : Type 0
 MoveKeeps = (s : State) (m : Move) → Holds s → may s m ≡ true → Holds (after_move s m)
 
--- the bytes of a stream's queue that a move sends
-abbrev pub sent_by : ℕ → State → Move → List ℕ
-sent_by n s GrantAll = []
-sent_by n s (Grant k) = []
-sent_by n s (Send k count) = if k == n then take count (queue_of s n) else []
-sent_by n s (End k) = []
-sent_by n s (Stop k) = []
-
 -- the bytes of a stream's queue that moves send, one after another
 abbrev pub sent : ℕ → State → List Move → List ℕ
 sent n s [] = []
-sent n s (m ∷ ms) = sent_by n s m ++ sent n (after_move s m) ms
+sent n s (m ∷ ms) = moved_text n s m ++ sent n (after_move s m) ms
 
 -- what was queued on a stream is what was sent, followed by what waits
 abbrev pub InOrder : Type 0

@@ -9,8 +9,8 @@ use Rattle.kn_h2_state.specs.Rules.{verdict}
 use Rattle.kn_h2_state.specs.Feeding.{after_frame}
 use Rattle.kn_h2_state.specs.Moves.{may, after_move, Makes}
 use Rattle.kn_h2_state.specs.Holding.{Holds}
-use Rattle.kn_h2_state.specs.Wire.{frame_grant, data_length}
-use Rattle.kn_h2.specs.Sending.{sent_by, sent}
+use Rattle.kn_h2_state.specs.Wire.{frame_grant, data_length, moved_text}
+use Rattle.kn_h2.specs.Sending.{sent}
 use Rattle.kn_h2.specs.Written.{granted_by, granted_in}
 
 -- Its sending window falls by what was sent of it, and its receiving window rises by what was granted.
@@ -21,7 +21,7 @@ pub record Windows (old new : Stream) (sent : List ℕ) (granted : ℕ) : Type 0
 -- of each stream that the connection still has after a move
 abbrev pub MoveShifts : Type 0
 MoveShifts = (s : State) (m : Move) (n : ℕ) (st new : Stream) → Holds s → may s m ≡ true
-    → stream_at s.streams n ≡ Some st → stream_at (after_move s m).streams n ≡ Some new → Windows st new (sent_by n s m) (granted_by n s m)
+    → stream_at s.streams n ≡ Some st → stream_at (after_move s m).streams n ≡ Some new → Windows st new (moved_text n s m) (granted_by n s m)
 
 -- and after moves, one after another
 abbrev pub MovesShift : Type 0
