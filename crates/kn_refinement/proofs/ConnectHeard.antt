@@ -23,10 +23,11 @@ use Rattle.kn_world.specs.Handing.{settles}
 use Rattle.kn_world.specs.Hearing.{head_came, head_came_as, request, with_owner}
 use Rattle.kn_world.specs.Numbers.{change, nth}
 use Rattle.kn_world.specs.ServerSteps.{step}
+use Rattle.kn_world.specs.Idle.{is_at_door}
 use Rattle.kn_refinement.specs.Asking.{AskedAt}
 use Rattle.kn_refinement.specs.Fits.{Fits, HasLeft, IsDataOf, IsUnheard}
 use Rattle.kn_refinement.specs.Leads.{Leads}
-use Rattle.kn_refinement.specs.Shown.{connect_app, connect_phase, connect_side, connect_stream, is_connected, is_refused, number_if, shown, unnumbered}
+use Rattle.kn_refinement.specs.Shown.{connect_app, connect_phase, connect_side, connect_stream, is_refused, number_if, shown, unnumbered}
 use Rattle.kn_refinement.proofs.Changes.{change_twice, changed_own}
 use Rattle.kn_refinement.proofs.ConnectHeads.{IsHeaded, fits_headed, head_shown, hidden, unbegun}
 use Rattle.kn_refinement.proofs.ConnectKept.{Has, Tied, step_tied}
@@ -78,8 +79,8 @@ module _ (go : KeysGoOn) (s : State) (k : ℕ) (a : App) (fits : Fits s) (keys :
   its_stream : (bytes : List ℕ) → connect_stream k (Some (door.kept_some bytes (plain a))) ≡ head_stream k Present (early_up bytes)
   its_stream bytes = by bytes
     where
-      client_is : (is_connected a.stage && not a.door.closing) ≡ true
-      client_is = ap (λ g. is_connected g && not a.door.closing) dialling ∙ ap not old.closing
+      client_is : (is_at_door a.stage && not a.door.closing) ≡ true
+      client_is = ap (λ g. is_at_door g && not a.door.closing) dialling ∙ ap not old.closing
 
       finished_is : (a.door.closing || is_refused a.stage) ≡ false
       finished_is = ap (λ g. a.door.closing || is_refused g) dialling ∙ ap (λ c. c || false) old.closing

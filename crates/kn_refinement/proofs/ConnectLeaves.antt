@@ -20,9 +20,10 @@ use Rattle.kn_world.specs.declared.state.State.{State}
 use Rattle.kn_world.specs.Apps as apps
 use Rattle.kn_world.specs.Numbers.{change, nth}
 use Rattle.kn_world.specs.ServerSteps.{step}
+use Rattle.kn_world.specs.Idle.{is_at_door}
 use Rattle.kn_refinement.specs.Fits.{Fits, HasLeft}
 use Rattle.kn_refinement.specs.Leads.{Leads}
-use Rattle.kn_refinement.specs.Shown.{app_at_home, app_of, client_app, connect_app, connect_phase, connect_stream, front_if, is_connected, is_refused, is_told, shown, unnumbered}
+use Rattle.kn_refinement.specs.Shown.{app_at_home, app_of, client_app, connect_app, connect_phase, connect_stream, front_if, is_refused, is_told, shown, unnumbered}
 use Rattle.kn_refinement.proofs.Changes.{changed_own}
 use Rattle.kn_refinement.proofs.ConnectParts.{Own, Same, ServerLeads, app_shown, apps_changed, fits_changed, own_front, stream_shown, streams_changed}
 use Rattle.kn_refinement.proofs.Worlds.{leads_one, worlds_same}
@@ -89,7 +90,7 @@ left_refused stage.Refused e = refl
 left_refused stage.Ended e = absurd cc
 
 -- what is shown of it where it still had its end, and where it had left before
-here_phase : (g : Stage) (c : Bool) → (is_connected g && not c) ≡ true → left_phase (connect_phase c g) ≡ connect_phase c (apps.left_stage g)
+here_phase : (g : Stage) (c : Bool) → (is_at_door g && not c) ≡ true → left_phase (connect_phase c g) ≡ connect_phase c (apps.left_stage g)
 here_phase stage.Dialling false h = refl
 here_phase stage.Open false h = refl
 here_phase stage.Dialling true h = absurd cc
@@ -97,19 +98,19 @@ here_phase stage.Open true h = absurd cc
 here_phase stage.Refused c h = absurd cc
 here_phase stage.Ended c h = absurd cc
 
-here_finished : (g : Stage) (c : Bool) → (is_connected g && not c) ≡ true → (c || is_refused g) ≡ (c || is_refused (apps.left_stage g))
+here_finished : (g : Stage) (c : Bool) → (is_at_door g && not c) ≡ true → (c || is_refused g) ≡ (c || is_refused (apps.left_stage g))
 here_finished stage.Dialling c h = refl
 here_finished stage.Open c h = refl
 here_finished stage.Refused c h = refl
 here_finished stage.Ended c h = refl
 
-no_end : (g : Stage) (c : Bool) → false ≡ (is_connected (apps.left_stage g) && not c)
+no_end : (g : Stage) (c : Bool) → false ≡ (is_at_door (apps.left_stage g) && not c)
 no_end stage.Dialling c = refl
 no_end stage.Open c = refl
 no_end stage.Refused c = refl
 no_end stage.Ended c = refl
 
-gone_phase : (g : Stage) (c : Bool) → (is_connected g && not c) ≡ false → connect_phase c g ≡ connect_phase c (apps.left_stage g)
+gone_phase : (g : Stage) (c : Bool) → (is_at_door g && not c) ≡ false → connect_phase c g ≡ connect_phase c (apps.left_stage g)
 gone_phase stage.Dialling true h = refl
 gone_phase stage.Open true h = refl
 gone_phase stage.Dialling false h = absurd cc
@@ -152,7 +153,7 @@ module _ (s : State) (k n : ℕ) (a : App) (fits : Fits s) (own : Own s k n a) (
   abbrev app_left : Bool → WorldApp → WorldApp
   app_left b x = record x { phase = cond b (left_phase x.phase) x.phase }
 
-  closes : (is_connected a.stage && not a.door.closing) ≡ true → Leads s left_state
+  closes : (is_at_door a.stage && not a.door.closing) ≡ true → Leads s left_state
   closes h = leads_one s left_state (ConnectLeaves (suc n) []) left_fits
       (ap (λ (x : WorldStream). x.client && x.connect) at_stream ∙ ap (λ b. b && true) h, (map unnumbered a.door.early, sym (ap (λ (x : WorldStream). x.up) at_stream)))
       (worlds_same (connect_leaves (suc n) (in_is (suc n) [] (shown s))) (shown left_state) refl (λ l. refl) (λ c. refl) (λ l. refl)
@@ -166,9 +167,9 @@ module _ (s : State) (k n : ℕ) (a : App) (fits : Fits s) (own : Own s k n a) (
   abbrev stream_dropped : Bool → WorldStream → WorldStream
   stream_dropped b x = record x { up = cond b [] x.up }
 
-  drops : (is_connected a.stage && not a.door.closing) ≡ false → Leads s left_state
+  drops : (is_at_door a.stage && not a.door.closing) ≡ false → Leads s left_state
   drops h = leads_one s left_state (DropsIn (suc n)) left_fits
-      (ap (λ (x : WorldStream). not (is_gone x.front) && not x.client) at_stream ∙ ap (λ b. not (is_gone (front_if b)) && not (is_connected a.stage && not a.door.closing)) at_server ∙ ap not h)
+      (ap (λ (x : WorldStream). not (is_gone x.front) && not x.client) at_stream ∙ ap (λ b. not (is_gone (front_if b)) && not (is_at_door a.stage && not a.door.closing)) at_server ∙ ap not h)
       (worlds_same (in_is (suc n) [] (shown s)) (shown left_state) refl (λ l. refl) (λ c. refl) (λ l. refl)
       (streams_changed s k n a leaving stream_dropped fits own (λ x. refl)
       (λ i. record (connect_stream k (Some a)) { client = (h ∙ no_end a.stage a.door.closing) i; finished = finished_same a.stage a.door.closing i; up = [] }))
@@ -176,9 +177,9 @@ module _ (s : State) (k n : ℕ) (a : App) (fits : Fits s) (own : Own s k n a) (
       (apps_changed s k n a leaving (λ b x. x) own own.at_door own.number (λ x. refl) (λ j. record (connect_app a) { phase = gone_phase a.stage a.door.closing h j })))
 
   pub leaving_leads : Leads s left_state
-  leaving_leads = here (is_connected a.stage && not a.door.closing) refl
+  leaving_leads = here (is_at_door a.stage && not a.door.closing) refl
     where
-      here : (b : Bool) → (is_connected a.stage && not a.door.closing) ≡ b → Leads s left_state
+      here : (b : Bool) → (is_at_door a.stage && not a.door.closing) ≡ b → Leads s left_state
       here true h = closes h
       here false h = drops h
 

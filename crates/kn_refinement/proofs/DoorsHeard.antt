@@ -9,8 +9,9 @@ use Rattle.kn_world.specs.declared.parts.App.{App}
 use Rattle.kn_world.specs.declared.parts.Stage.{Stage}
 use Rattle.kn_world.specs.declared.parts.Stage.TheVariants as stage
 use Rattle.kn_world.specs.Doors as door
+use Rattle.kn_world.specs.Idle.{is_at_door}
 use Rattle.kn_refinement.specs.Settled.{bytes_taken, ends, is_refused}
-use Rattle.kn_refinement.specs.Shown.{connect_phase, connect_side, is_connected, unnumbered, is_refused as was_refused}
+use Rattle.kn_refinement.specs.Shown.{connect_phase, connect_side, unnumbered, is_refused as was_refused}
 
 -- ---- what is shown of the app and of its stream
 pub record View : Type 0 where
@@ -22,7 +23,7 @@ pub record View : Type 0 where
 
 abbrev pub view : App → View
 view a = record {
-  client = is_connected a.stage && not a.door.closing;
+  client = is_at_door a.stage && not a.door.closing;
   finished = a.door.closing || was_refused a.stage;
   up = map unnumbered a.door.early;
   phase = connect_phase a.door.closing a.stage;

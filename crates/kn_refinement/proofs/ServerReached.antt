@@ -21,10 +21,11 @@ use Rattle.kn_world.specs.declared.parts.Stage.TheVariants as stage
 use Rattle.kn_world.specs.declared.state.State.{State}
 use Rattle.kn_world.specs.Numbers.{nth}
 use Rattle.kn_world.specs.ServerSteps.{step}
+use Rattle.kn_world.specs.Idle.{is_at_door}
 use Rattle.kn_refinement.specs.Fits.{Fits, HasLeft}
 use Rattle.kn_refinement.specs.Leads.{Leads}
 use Rattle.kn_refinement.specs.Settled.{settled, takes}
-use Rattle.kn_refinement.specs.Shown.{app_at_home, app_of, client_stream, connect_app, connect_stream, front_if, is_connected, link_of, shown, stream_of}
+use Rattle.kn_refinement.specs.Shown.{app_at_home, app_of, client_stream, connect_app, connect_stream, front_if, link_of, shown, stream_of}
 use Rattle.kn_refinement.proofs.FitsServer.{MayStep, step_fits}
 use Rattle.kn_refinement.proofs.NumberLemmas.{nth_within}
 use Rattle.kn_refinement.proofs.ServerSteps.{AsksFor, LinksKnown, server_shown}
@@ -41,7 +42,7 @@ module _ (s : State) (fits : Fits s) where
   connected a true e t gone = ap (λ b. is_gone (front_if b)) e
   connected a false e t gone = here (gone e)
     where
-      left : (s : Stage) → HasLeft s → is_connected s ≡ false
+      left : (s : Stage) → HasLeft s → is_at_door s ≡ false
       left stage.Refused h = refl
       left stage.Ended h = refl
       left stage.Dialling (inl h) = absurd cc
@@ -50,7 +51,7 @@ module _ (s : State) (fits : Fits s) where
       left stage.Open (inr h) = absurd cc
 
       here : HasLeft a.stage → is_gone (front_if a.door.at_server) ≡ false
-      here h = absurd (cc (and_first (is_connected a.stage) (not a.door.closing) t, left a.stage h))
+      here h = absurd (cc (and_first (is_at_door a.stage) (not a.door.closing) t, left a.stage h))
 
   numbered : (k : ℕ) (a : App) → nth k s.apps ≡ Some a → a.home ≡ home.Connect → (f : ℕ) → a.door.number ≡ f → (o : Owner) → nth f s.fronts ≡ Some o → a.door.at_server ≡ false → HasLeft a.stage
   numbered k a e h zero z o i gone = absurd cc

@@ -24,6 +24,7 @@ use Rattle.kn_world.specs.declared.parts.Stage.TheVariants as stage
 use Rattle.kn_world.specs.declared.state.State.{State}
 use Rattle.kn_world.specs.Clients.{state_at as app_state_at}
 use Rattle.kn_world.specs.Dials.{state_at as dest_state_at}
+use Rattle.kn_world.specs.Idle.{is_at_door}
 use Rattle.kn_world.specs.Numbers.{nth}
 
 -- ---- links and agents
@@ -76,12 +77,6 @@ is_refused stage.Dialling = false
 is_refused stage.Open = false
 is_refused stage.Ended = false
 
-abbrev pub is_connected : Stage → Bool
-is_connected stage.Dialling = true
-is_connected stage.Open = true
-is_connected stage.Refused = false
-is_connected stage.Ended = false
-
 abbrev pub connect_stream : ℕ → Option App → WorldStream
 connect_stream number None = no_stream
 connect_stream number (Some a) = record {
@@ -90,7 +85,7 @@ connect_stream number (Some a) = record {
   owner = 0;
   app = number;
   front = front_if a.door.at_server;
-  client = is_connected a.stage && not a.door.closing;
+  client = is_at_door a.stage && not a.door.closing;
   finished = a.door.closing || is_refused a.stage;
   up = map unnumbered a.door.early;
   down = [];
