@@ -1,5 +1,5 @@
 -- What a piece does to what is held.
-use Rattle.std.proofs.Common.{◌≡◌, ℕ, ◌+◌, ◌<◌, ◌≤◌, ◌==◌, ◌||◌, true, false, List, [], ◌∷◌, ◌++◌, length, take, drop, arith, refl, sym, ap, ◌∙◌, append_assoc, length-append, inl, inr, Some, None, is_some}
+use Rattle.std.proofs.Common.{◌≡◌, ◌≢◌, ℕ, ◌+◌, ◌<◌, ◌≤◌, ◌==◌, ◌||◌, true, false, List, [], ◌∷◌, ◌++◌, length, take, drop, arith, refl, sym, ap, ◌∙◌, append_assoc, length-append, inl, inr, Some, None, is_some}
 use Rattle.std.proofs.lemmas.List.{append-nil, drop_all, drop_at, take_all}
 use Rattle.std.proofs.Math.Seq.{take-add}
 use Rattle.std.proofs.lemmas.Bool.{cases_lt, eq-eqb, ne_eqb}
@@ -8,7 +8,7 @@ use Rattle.kn_grpc.specs.declared.fault.MessageReason.{MessageReason}
 use Rattle.kn_grpc.specs.Messages.{length_of}
 use Rattle.kn_grpc.specs.Readers.{Less, Whole, Bad, Reading, reason_in, first_message, is_less, message_in, taken, fed, fault_by, fault_in}
 use Rattle.kn_grpc.specs.Stored.{is_sound_at}
-use Rattle.kn_grpc.proofs.Firsts.{IsLong, seen_of, short, long, bad, well_none, first_short, first_long, first_bad}
+use Rattle.kn_grpc.proofs.Firsts.{IsLong, seen_of, short, long, bad, well_none, none_well, first_short, first_long, first_bad}
 use Rattle.kn_grpc.proofs.Taking.{taken_more, taken_none}
 use Rattle.kn_grpc.proofs.States.{at_body, no_body}
 
@@ -57,6 +57,22 @@ pub short_held : (head body : List ℕ) → is_sound_at head body ≡ true → l
 short_held head body h l e n =
     let a = at_body head body h l e in
     first_short (head ++ body) (record { well = a.well; short = omega (arith, a.len, a.says, n) })
+
+-- another length than the head says is less
+pub not_all_held : (head body : List ℕ) → is_sound_at head body ≡ true → length head ≡ 5 → reason_in head ≡ None → length body ≢ length_of head →
+    first_message (head ++ body) ≡ Less
+not_all_held head body h l e n =
+    let a = at_body head body h l e in
+    elim (cases_lt (length body) (length_of head)) [
+      | inl g ↦ short_held head body h l e g
+      | inr g ↦ absurd (n (omega (arith, a.within, g)))
+    ]
+
+-- less than a head without a fault is less than a message
+pub less_head : (head body : List ℕ) → is_sound_at head body ≡ true → reason_in head ≡ None → length head < 5 → first_message (head ++ body) ≡ Less
+less_head head body h e l =
+    let b = no_body head body h l in
+    ap (λ t. first_message (head ++ t)) b ∙ ap first_message (append-nil head) ∙ first_short head (record { well = none_well head e; short = omega (arith, l) })
 
 -- less than a head is no whole message
 pub not_whole_head : (head body : List ℕ) → is_sound_at head body ≡ true → length head < 5 → message_in (first_message (head ++ body)) ≡ None

@@ -1,6 +1,8 @@
 -- What soundness says of a state.
-use Rattle.std.proofs.Common.{◌≡◌, ℕ, ◌+◌, ◌-◌, ◌<◌, ◌≤◌, true, List, [], ◌∷◌, ◌++◌, length, min, arith, ◌∙◌, length-append, None}
+use Rattle.std.specs.Prelude.{◌==◌}
+use Rattle.std.proofs.Common.{◌≡◌, ◌≢◌, ℕ, ◌+◌, ◌-◌, ◌<◌, ◌≤◌, true, false, List, [], ◌∷◌, ◌++◌, length, min, arith, sym, ap, ◌∙◌, length-append, None}
 use Rattle.std.proofs.lemmas.List.{nil_from_length}
+use Rattle.std.proofs.lemmas.Bool.{ne_eqb}
 use Rattle.std.proofs.lemmas.Bool.Decides.{nat_tests}
 use Rattle.kn_grpc.specs.Messages.{length_of}
 use Rattle.kn_grpc.specs.Readers.{reason_in, taken}
@@ -38,3 +40,10 @@ count_of_body head body piece h l e =
     let a = at_body head body h l e in
     let t = taken_body (head ++ body) piece a.well (omega (arith, a.len)) (omega (arith, a.len, a.says, a.within)) in
     omega (arith, t, a.len, a.says)
+
+-- where the first of two lists is empty the join is empty exactly where the second is
+pub first_is_none : (xs ys : List ℕ) → length xs ≡ 0 → (length ys == 0) ≡ (length (xs ++ ys) == 0)
+first_is_none xs ys e = ap (λ (n : ℕ). n == 0) (omega (arith, length-append xs ys, e))
+
+pub first_is_some : (xs ys : List ℕ) → length xs ≢ 0 → false ≡ (length (xs ++ ys) == 0)
+first_is_some xs ys n = sym (ne_eqb (length (xs ++ ys)) 0 (λ z. n (omega (arith, length-append xs ys, z))))

@@ -52,6 +52,11 @@ agent_by (Err fault) id = Err Identifiers
 unfoldable pub agent_call : List ℕ → List ℕ → Result Call CallFault
 agent_call text id = if is_utf8 text then agent_by (identifiers_in text) id else Err Identifiers
 
+-- the service that the path of a head names, where the method is POST
+unfoldable pub service_in_path : List Field → Option Service
+service_in_path fields =
+    if bytes_eq (value_in (codes ":method") fields) (codes "POST") then service_of (value_in (codes ":path") fields) else None
+
 abbrev pub call_for : Service → List Field → Result Call CallFault
 call_for Agent fields = agent_call (value_in (codes "agentidentifiers") fields) (value_in (codes "agentid") fields)
 call_for Proxy fields = Ok (call_of Proxy [] [])

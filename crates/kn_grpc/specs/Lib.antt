@@ -1,6 +1,7 @@
 pub mod Messages
 pub mod Readers
 pub mod Stored
+pub mod Fronts
 pub mod Courses
 pub mod CallHeads
 pub mod Packets

@@ -1,9 +1,10 @@
 ghost use Rattle.std.specs.Prelude.{◌≡◌, ◌==◌, ◌≤◌, ◌||◌, [], length, is_some, IfOk, MatchOption, None};
+ghost use Rattle.kn_grpc.specs.Fronts.{front_seen};
 ghost use Rattle.kn_grpc.specs.Readers.{Whole, first_message, message_in, start, popped, IsFed};
 
-use crate::MessageError;
 use crate::head::Head;
 use crate::state::{self, State};
+use crate::{Front, MessageError};
 use kn_io::Blob;
 use std::alloc::Global;
 use std::marker::Model;
@@ -60,6 +61,21 @@ impl Messages {
         } else {
             None
         }
+    }
+
+    /// What stands at the front of what is kept: less than a message, one that is lent whole, or why no message
+    /// begins so. Takes no memory.
+    pub fn first(&self) -> Front<'_>
+        ensures { front_seen result ≡ first_message self.now.kept }
+    {
+        state::first(&self.state)
+    }
+
+    /// No byte of a message is kept.
+    pub fn is_empty(&self) -> bool
+        ensures { result ≡ (length self.now.kept == 0) }
+    {
+        state::is_empty(&self.state)
     }
 
     /// Drops the message that is held whole, if one is. Takes no memory.

@@ -1,6 +1,6 @@
 ghost use Rattle.std.specs.Prelude.{◌≡◌, slice_index, true, false, MatchOption};
 ghost use Rattle.std.specs.Str.{is_utf8};
-ghost use Rattle.kn_grpc.specs.Calls.{value_in, may_precede, ends_in, service_of, is_id, agent_by, agent_call, call_for, call_at, call_in, IsCallAnswer};
+ghost use Rattle.kn_grpc.specs.Calls.{value_in, may_precede, ends_in, service_of, is_id, agent_by, agent_call, call_for, call_at, call_in, service_in_path, IsCallAnswer};
 ghost use Rattle.kn_route.specs.Identifiers.{identifiers_in};
 
 use crate::call::{Call, CallError, CallFault, Service};
@@ -170,5 +170,18 @@ pub fn read_call(alloc: Global, headers: &Headers) -> Result<Call, CallError>
         call_at(alloc, service_of(value_of(headers, b":path")), headers)
     } else {
         Err(CallError::Fault(CallFault::NotPost))
+    }
+}
+
+/// The service that the path of a request head names, where the method is POST: whatever its content type,
+/// and whatever an agent says of itself. Takes no memory.
+#[tactic(auto, unfolding(crate::specs::Calls::service_in_path))]
+pub fn service_in_path(headers: &Headers) -> Option<Service>
+    ensures { result ≡ service_in_path headers.now }
+{
+    if value_of(headers, b":method") == b"POST".as_slice() {
+        service_of(value_of(headers, b":path"))
+    } else {
+        None
     }
 }

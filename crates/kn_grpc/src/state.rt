@@ -1,9 +1,10 @@
-ghost use Rattle.std.specs.Prelude.{◌≡◌, ◌+◌, ◌≤◌, ◌<◌, [], ◌++◌, true, length, take, drop, IfOk, IfErr, OnErr, is_some, IsTrue, None};
+ghost use Rattle.std.specs.Prelude.{◌≡◌, ◌+◌, ◌≤◌, ◌<◌, ◌==◌, [], ◌++◌, true, length, take, drop, IfOk, IfErr, OnErr, is_some, IsTrue, None};
 ghost use Rattle.kn_grpc.specs.Readers.{Whole, first_message, message_in, taken, reason_in, wants_head, IsFed, popped};
+ghost use Rattle.kn_grpc.specs.Fronts.{front_seen};
 ghost use Rattle.kn_grpc.specs.Stored.{seen, is_sound};
 
 use crate::head::{self, Head};
-use crate::{MessageError, MessageFault};
+use crate::{Front, MessageError, MessageFault};
 use kn_io::{Blob, NoMemory};
 use std::alloc::Global;
 
@@ -129,6 +130,43 @@ pub fn is_whole(state: &State) -> bool
         Some(_reason) => false,
         None => state.body.len() == head::length_of(state.head.as_slice()),
     }
+}
+
+/// What stands at the front, behind a head that has no fault so far.
+fn well_front(state: &State) -> Front<'_>
+    requires sound { is_sound state.now ≡ true }
+    requires well { reason_in state.now.head ≡ None }
+    ensures { front_seen result ≡ first_message (state.now.head ++ state.now.body) }
+{
+    if state.head.len() < 5 {
+        return Front::Less;
+    }
+    if state.body.len() == head::length_of(state.head.as_slice()) {
+        Front::Whole {
+            message: state.body.as_slice(),
+        }
+    } else {
+        Front::Less
+    }
+}
+
+/// What stands at the front.
+pub fn first(state: &State) -> Front<'_>
+    requires sound { is_sound state.now ≡ true }
+    ensures { front_seen result ≡ first_message (state.now.head ++ state.now.body) }
+{
+    match head::reason_in(state.head.as_slice()) {
+        Some(reason) => Front::Bad { reason },
+        None => well_front(state),
+    }
+}
+
+/// Nothing is held.
+pub fn is_empty(state: &State) -> bool
+    requires sound { is_sound state.now ≡ true }
+    ensures { result ≡ (length (state.now.head ++ state.now.body) == 0) }
+{
+    state.head.len() == 0 && state.body.is_empty()
 }
 
 /// Lets go of a whole message.

@@ -1,5 +1,5 @@
 -- Moves one after another.
-use Rattle.std.proofs.Common.{◌≡◌, ℕ, ◌+◌, ◌-◌, ◌<◌, Bool, true, false, cond, leb, List, [], ◌∷◌, ◌++◌, length, take, drop, Option, Some, None, is_some, is_none, refl, sym, ap, subst, arith, length-append}
+use Rattle.std.proofs.Common.{◌≡◌, ℕ, ◌+◌, ◌-◌, ◌<◌, Bool, true, false, ◌||◌, cond, leb, List, [], ◌∷◌, ◌++◌, length, take, drop, Option, Some, None, is_some, is_none, refl, sym, ap, subst, arith, length-append}
 use Rattle.std.specs.Int.{to_be_bytes, w32}
 use Rattle.kn_frames.specs.Frames.{spelled}
 use Rattle.kn_hpack.specs.Fields.{Field}
@@ -10,7 +10,13 @@ use Rattle.kn_h2_state.specs.declared.moves.Move.TheVariants.{GrantAll, Grant, S
 use Rattle.kn_h2_state.specs.declared.stream.Stream.{Stream}
 use Rattle.kn_h2_state.specs.declared.state.State.{State}
 use Rattle.kn_h2_state.specs.Rules.{is_client}
-use Rattle.kn_h2_state.specs.Moves.{may, is_owed, can_send, can_end, can_stop, made, after_move, end_frames, headers_frames, more_headers, Makes, Reaches}
+use Rattle.kn_h2_state.specs.Moves.{may, is_owed, can_send, can_end, can_stop, made, after_move, end_frames, headers_frames, more_headers, Makes, Reaches, is_due}
+use Rattle.kn_h2_state.specs.declared.event.H2Event.{H2Event}
+use Rattle.kn_h2_state.specs.Outgoing.{taken}
+use Rattle.kn_h2_state.specs.Calls.{after_took}
+use Rattle.kn_h2.specs.Connections.{NotesDue}
+use Rattle.std.proofs.lemmas.Bool.{or_parts, and_right, leb-false, false_from_ne_true}
+use Rattle.kn_h2.proofs.FindLemmas.{may_from, sound_if}
 use Rattle.kn_h2.proofs.FoundLemmas.{found_open}
 use Rattle.kn_h2.proofs.MoveLemmas.{move_parts, end_parts}
 
@@ -83,3 +89,41 @@ less_room s new m ok e =
     let grows = move_grows s m ok in
     let same : length new.out.bytes ≡ length (after_move s m).out.bytes = ap (λ (x : State). length x.out.bytes) e in
     omega (arith, room, grows, same)
+
+-- ---- what is noted
+
+-- after everything was written something is due only where the connection has failed or is full
+pub noted : (s : State) (b : Bool) → b ≡ (is_some s.failed || leb 16384 (length s.out.bytes)) → ((m : Move) → may s m ≡ false) → NotesDue b s
+noted s true e none = tt
+noted s false e none =
+    let parts = or_parts (is_some s.failed) _ (sym e) in
+    λ m. false_from_ne_true _ (λ due. absurd (let can = may_from s m (sound_if s.failed parts.0) (leb-false _ _ parts.1) due in let not : may s m ≡ false = none m in cc))
+
+-- where nothing is noted nothing may be written
+pub none_noted : (s : State) (b : Bool) → b ≡ false → NotesDue b s → (m : Move) → may s m ≡ false
+unfolding may
+none_noted s true e none m = absurd cc
+none_noted s false e none m = and_right _ _ (and_right _ _ (none m))
+
+pub notes_told : (s : State) (b : Bool) (es : List H2Event) → NotesDue b s → NotesDue b (record s { events = es })
+notes_told s true es none = tt
+notes_told s false es none = by_move
+  where
+    by_move : (m : Move) → is_due (record s { events = es }) m ≡ false
+    by_move GrantAll = none GrantAll
+    by_move (Grant n) = none (Grant n)
+    by_move (Send n count) = none (Send n count)
+    by_move (End n) = none (End n)
+    by_move (Stop n) = none (Stop n)
+
+pub notes_took : (s : State) (b : Bool) (count : ℕ) → NotesDue b s → NotesDue b (after_took count s)
+unfolding after_took
+notes_took s true count none = tt
+notes_took s false count none = by_move
+  where
+    by_move : (m : Move) → is_due (record s { out = taken s.out count }) m ≡ false
+    by_move GrantAll = none GrantAll
+    by_move (Grant n) = none (Grant n)
+    by_move (Send n count) = none (Send n count)
+    by_move (End n) = none (End n)
+    by_move (Stop n) = none (Stop n)

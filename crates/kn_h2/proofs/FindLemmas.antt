@@ -154,7 +154,7 @@ may_not_full s m h = and_right _ _ (and_left _ _ h)
 
 -- ---- what `next_move` knows at its ends
 
-sound_if : (o : Option ℕ) → is_some o ≡ false → is_none o ≡ true
+pub sound_if : (o : Option ℕ) → is_some o ≡ false → is_none o ≡ true
 sound_if None h = refl
 sound_if (Some code) h = absurd cc
 

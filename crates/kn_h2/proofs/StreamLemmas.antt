@@ -1,9 +1,9 @@
 -- Streams by their numbers: one of them changes, and those with nothing left go.
 use Rattle.std.proofs.Common.{◌≡◌, ℕ, ◌+◌, ◌<◌, ◌≤◌, ◌%◌, Bool, true, false, not, cond, eqb, List, [], ◌∷◌, ◌++◌, length, map, Some, None, refl, sym, ap, ◌∙◌, subst, arith}
 use Rattle.std.specs.List.{AllByRecursion}
-use Rattle.std.proofs.lemmas.Bool.{eqb-true, or_parts, not-false}
+use Rattle.std.proofs.lemmas.Bool.{eqb-true, and_parts, or_parts, or_left, not-false}
 use Rattle.kn_h2_state.specs.declared.stream.Stream.{Stream}
-use Rattle.kn_h2_state.specs.Streams.{stream_at, with_stream, change, is_open, is_kept, tidied}
+use Rattle.kn_h2_state.specs.Streams.{stream_at, with_stream, change, is_open, is_kept, tidied, passes, on_open}
 use Rattle.kn_h2_state.specs.Holding.{Rising, text_bytes}
 
 -- ---- one stream changes
@@ -97,6 +97,30 @@ kept_tidied (x ∷ ss) = by_test (is_kept x) refl (kept_tidied ss)
     by_test : (b : Bool) → is_kept x ≡ b → AllByRecursion (λ st. is_kept st ≡ true) (tidied ss) → AllByRecursion (λ st. is_kept st ≡ true) (cond b (x ∷ tidied ss) (tidied ss))
     by_test true t rest = (t, rest)
     by_test false t rest = rest
+
+-- where all are kept none goes
+pub tidied_all : (ss : List Stream) → AllByRecursion (λ st. is_kept st ≡ true) ss → tidied ss ≡ ss
+tidied_all [] all = refl
+tidied_all (x ∷ ss) all = ap (λ b. cond b (x ∷ tidied ss) (tidied ss)) all.0 ∙ ap (λ l. x ∷ l) (tidied_all ss all.1)
+
+-- nor where one was changed that is still open
+pub open_stays : (ss : List Stream) (n : ℕ) (f : Stream → Stream) → ((st : Stream) → (f st).number ≡ st.number) → AllByRecursion (λ st. is_kept st ≡ true) ss
+    → on_open (change ss n f) n (λ st. true) ≡ true → tidied (change ss n f) ≡ change ss n f
+unfolding stream_at change
+open_stays [] n f keeps all here = refl
+open_stays (x ∷ ss) n f keeps all here = by_test (eqb x.number n) refl (open_stays ss n f keeps all.1) here
+  where
+    open_head : (b : Bool) → b ≡ true → passes (λ st. true) (cond b (Some (f x)) (stream_at ss n)) ≡ true → is_kept (f x) ≡ true
+    open_head true e h = or_left _ _ (and_parts (is_open (f x)) true h).0
+    open_head false e h = absurd cc
+
+    by_test : (b : Bool) → eqb x.number n ≡ b → (on_open (change ss n f) n (λ st. true) ≡ true → tidied (change ss n f) ≡ change ss n f)
+        → on_open (cond b (f x ∷ ss) (x ∷ change ss n f)) n (λ st. true) ≡ true → tidied (cond b (f x ∷ ss) (x ∷ change ss n f)) ≡ cond b (f x ∷ ss) (x ∷ change ss n f)
+    by_test true t rest h =
+        ap (λ b. cond b (f x ∷ tidied ss) (tidied ss)) (open_head (eqb (f x).number n) (ap (λ k. eqb k n) (keeps x) ∙ t) h) ∙ ap (λ l. f x ∷ l) (tidied_all ss all.1)
+    by_test false t rest h =
+        ap (λ b. cond b (x ∷ tidied (change ss n f)) (tidied (change ss n f))) all.0
+        ∙ ap (λ l. x ∷ l) (rest (subst (λ b. passes (λ st. true) (cond b (Some x) (stream_at (change ss n f) n)) ≡ true) t h))
 
 -- what is not kept has no text
 pub no_text : (s : Stream) → is_kept s ≡ false → length s.text ≡ 0

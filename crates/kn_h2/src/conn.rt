@@ -1,4 +1,4 @@
-ghost use Rattle.std.specs.Prelude.{◌≡◌, ◌≢◌, ◌≤◌, ◌&&◌, [], ◌∷◌, length, min, not, true, false, is_some, MatchOption, IfOk, IfErr, OnOk, OnErr, Some, None};
+ghost use Rattle.std.specs.Prelude.{◌≡◌, ◌≢◌, ◌≤◌, ◌&&◌, [], ◌∷◌, ◌++◌, length, min, not, true, false, is_some, MatchOption, IfOk, IfErr, OnOk, OnErr, Some, None};
 ghost use Rattle.std.specs.List.{AllByRecursion};
 ghost use Rattle.kn_frames.specs.Frames.{IsWithinLimits};
 ghost use Rattle.kn_frames.specs.Readers.{frames_in};
@@ -13,22 +13,25 @@ use crate::ruin::ruin;
 use crate::text::is_open_at;
 use crate::{stream_calls, taking};
 use kn_frames::Cutter;
-use kn_h2_state::{H2Event, QueueRefusal, Role, State};
+use kn_h2_state::{Events, H2Event, QueueRefusal, Role, State};
 use kn_hpack::Headers;
 use kn_io::NoMemory;
 use std::alloc::Global;
 use std::marker::Model;
+use std::mem;
 
 /// One end of an HTTP/2 connection (RFC 9113). It has no socket: the peer's bytes are fed to it, and the
 /// bytes in `out` go to the peer. Contracts see what cuts the peer's bytes into frames, and the state.
 ///
-/// After want of memory it has failed.
+/// After want of memory it has failed with INTERNAL_ERROR, but for `queue`, which changes nothing then.
 #[derive(Drop)]
 pub struct Conn {
     pub(crate) cutter: Cutter,
     pub(crate) state: State,
     /// The stream at which the next `fill` begins its search.
     pub(crate) turn: u32,
+    /// Something may be due to be written. Where nothing is, `fill` looks at no stream.
+    pub(crate) due: bool,
 }
 
 impl Model for Conn {
@@ -37,11 +40,11 @@ impl Model for Conn {
     ghost Value = { Connection };
 
     ghost use Rattle.kn_h2_state.specs.Holding.{Holds};
-    ghost use Rattle.kn_h2.specs.Connections.{connection};
+    ghost use Rattle.kn_h2.specs.Connections.{connection, NotesDue};
 
     ghost view = { λ c. connection c.cutter c.state };
 
-    ghost invariant = { λ c. Holds c.state };
+    ghost invariant = { λ c. Holds c.state × NotesDue c.due c.state };
 }
 
 impl Conn {
@@ -54,6 +57,7 @@ impl Conn {
             cutter: Cutter::new(alloc, !role.is_client()),
             state,
             turn: 0,
+            due: true,
         })
     }
 
@@ -61,7 +65,9 @@ impl Conn {
     pub fn feed(&mut self, alloc: Global, piece: &[u8]) -> Result<(), NoMemory>
         ensures after { OnOk result (self.new ≡ after_piece self.old piece.now) }
         ensures limits { OnOk result (is_some self.old.state.failed ≡ false → AllByRecursion IsWithinLimits (frames_in self.old.cutter piece.now)) }
+        ensures over { OnErr result (self.new.state.failed ≡ Some 2) }
     {
+        self.due = true;
         match feed(&mut self.cutter, &mut self.state, alloc, piece) {
             Ok(()) => Ok(()),
             Err(error) => {
@@ -79,6 +85,14 @@ impl Conn {
         self.state.events.pop()
     }
 
+    /// What was told, in the order of the frames, and none of it is left here. Takes no memory.
+    pub fn take_events(&mut self, alloc: Global) -> Events
+        ensures told { result ≡ self.old.state.events }
+        ensures left { Changes self.old self.new (λ s. record s { events = [] }) }
+    {
+        mem::replace(&mut self.state.events, Events::new(alloc))
+    }
+
     /// The text of a stream that came and was not taken.
     pub fn text(&self, stream: u32) -> &[u8]
         ensures { result.now ≡ text_of self.now.state stream }
@@ -94,6 +108,7 @@ impl Conn {
         requires { count ≤ length (text_of self.old.state stream) }
         ensures { Changes self.old self.new (after_take stream count) }
     {
+        self.due = true;
         taking::take(&mut self.state, stream, count);
     }
 
@@ -105,7 +120,19 @@ impl Conn {
         ensures err { IfErr result (λ e. e ≢ QueueRefusal.NoMemory → queue_refusal self.old.state stream ≡ Some e) }
         ensures kept { OnErr result (self.new ≡ self.old) }
     {
+        self.due = true;
         stream_calls::queue(&mut self.state, stream, bytes)
+    }
+
+    /// As `queue`, for bytes that stand in two places.
+    pub fn queue_two(&mut self, stream: u32, front: &[u8], rest: &[u8]) -> Result<(), QueueRefusal>
+        requires { on_open self.old.state.streams stream (λ st. takes_more st && not (is_client self.old.state.role) && not st.answered) ≡ false }
+        ensures ok { OnOk result ((queue_refusal self.old.state stream ≡ None) × Changes self.old self.new (after_queue stream (front.now ++ rest.now))) }
+        ensures err { IfErr result (λ e. e ≢ QueueRefusal.NoMemory → queue_refusal self.old.state stream ≡ Some e) }
+        ensures kept { OnErr result (self.new ≡ self.old) }
+    {
+        self.due = true;
+        stream_calls::queue_two(&mut self.state, stream, front, rest)
     }
 
     /// This end's half of a stream is to end after what waits, at a server with these trailers. Takes no
@@ -115,6 +142,7 @@ impl Conn {
         ensures ok { OnOk result ((refusal takes_more self.old.state stream ≡ None) × Changes self.old self.new (after_finish stream trailers)) }
         ensures err { IfErr result (λ e. (refusal takes_more self.old.state stream ≡ Some e) × (self.new ≡ self.old)) }
     {
+        self.due = true;
         stream_calls::finish(&mut self.state, stream, trailers)
     }
 
@@ -122,7 +150,9 @@ impl Conn {
     pub fn reset(&mut self, alloc: Global, stream: u32, code: u32) -> Result<(), QueueRefusal>
         ensures ok { OnOk result ((refusal (λ st. st.own_open) self.old.state stream ≡ None) × Changes self.old self.new (after_reset stream code)) }
         ensures err { IfErr result (λ e. e ≢ QueueRefusal.NoMemory → (refusal (λ st. st.own_open) self.old.state stream ≡ Some e) × (self.new ≡ self.old)) }
+        ensures over { IfErr result (λ e. e ≡ QueueRefusal.NoMemory → self.new.state.failed ≡ Some 2) }
     {
+        self.due = true;
         match stream_calls::reset(&mut self.state, stream, code) {
             Ok(()) => Ok(()),
             Err(QueueRefusal::NoMemory) => {
@@ -151,7 +181,8 @@ impl Conn {
 
     /// How many bytes of a partial frame, or of a partial preface, were read.
     pub fn held(&self) -> usize
-        ensures { result ≡ length self.now.cutter.rest }
+        ensures value { result ≡ length self.now.cutter.rest }
+        ensures bound { result ≤ 16393 }
     {
         self.cutter.held()
     }

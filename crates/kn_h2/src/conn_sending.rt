@@ -1,6 +1,6 @@
 //! What a connection writes at its own time, and the heads that its owner sends.
 
-ghost use Rattle.std.specs.Prelude.{◌≡◌, ◌≢◌, ◌&&◌, not, None, Some, true, false, is_some, IfOk, IfErr, OnOk};
+ghost use Rattle.std.specs.Prelude.{◌≡◌, ◌≢◌, ◌&&◌, not, None, Some, true, false, is_some, IfOk, IfErr, OnOk, OnErr};
 ghost use Rattle.kn_h2_state.specs.declared.role.Role.TheVariants.{Client, Server};
 ghost use Rattle.kn_h2_state.specs.declared.refusal.QueueRefusal.TheVariants as queues;
 ghost use Rattle.kn_h2_state.specs.Streams.{on_open};
@@ -15,7 +15,7 @@ use crate::conn::Conn;
 use crate::fill::fill;
 use crate::heads::begin;
 use crate::ruin::ruin;
-use crate::stream_calls::takes_more;
+use crate::stream_calls::{takes_more, takes_more_at};
 use kn_h2_state::{BeginRefusal, QueueRefusal, Role, is_open};
 use kn_hpack::Headers;
 use kn_io::NoMemory;
@@ -28,11 +28,13 @@ impl Conn {
         ensures made { OnOk result ((self.new.cutter ≡ self.old.cutter) × Reaches self.old.state self.new.state) }
         ensures filled { OnOk result ((m : Move) → may self.new.state m ≡ false) }
         ensures failed { OnOk result (is_some self.old.state.failed ≡ true → self.new ≡ self.old) }
+        ensures over { OnErr result (self.new.state.failed ≡ Some 2) }
     {
-        match fill(&mut self.state, alloc, &mut self.turn) {
+        match fill(&mut self.state, alloc, &mut self.turn, &mut self.due) {
             Ok(()) => Ok(()),
             Err(error) => {
                 ruin(&mut self.state, alloc);
+                self.due = true;
                 Err(error)
             }
         }
@@ -44,7 +46,9 @@ impl Conn {
         ensures number { IfOk result (λ n. n ≡ next_number self.old.state) }
         ensures ok { OnOk result ((begin_refusal self.old.state ≡ None) × Changes self.old self.new (after_begin headers.now)) }
         ensures err { IfErr result (λ e. e ≢ begins.NoMemory → (begin_refusal self.old.state ≡ Some e) × (self.new ≡ self.old)) }
+        ensures over { IfErr result (λ e. e ≡ begins.NoMemory → self.new.state.failed ≡ Some 2) }
     {
+        self.due = true;
         match begin(&mut self.state, alloc, headers) {
             Ok(number) => Ok(number),
             Err(BeginRefusal::NoMemory) => {
@@ -70,7 +74,9 @@ impl Conn {
         requires once { on_open self.old.state.streams stream (λ st. takes_more st && st.answered) ≡ false }
         ensures ok { OnOk result ((refusal takes_more self.old.state stream ≡ None) × Changes self.old self.new (after_answer stream headers.now)) }
         ensures err { IfErr result (λ e. e ≢ queues.NoMemory → (refusal takes_more self.old.state stream ≡ Some e) × (self.new ≡ self.old)) }
+        ensures over { IfErr result (λ e. e ≡ queues.NoMemory → self.new.state.failed ≡ Some 2) }
     {
+        self.due = true;
         match answer(&mut self.state, alloc, stream, headers) {
             Ok(()) => Ok(()),
             Err(QueueRefusal::NoMemory) => {
@@ -88,6 +94,14 @@ impl Conn {
         ensures { result ≡ self.now.state.role }
     {
         self.state.role
+    }
+
+    /// This end's half of the stream is open, and its end was not asked for: `queue` and `finish` are not
+    /// refused for the stream's sake.
+    pub fn takes_more(&self, stream: u32) -> bool
+        ensures { result ≡ on_open self.now.state.streams stream takes_more }
+    {
+        takes_more_at(&self.state.streams, stream)
     }
 
     /// This end is a server whose half of the stream takes more, and the stream is not answered: `answer` comes

@@ -33,6 +33,21 @@ fn can_stop(stream: &Stream) -> bool
     stream.resets && stream.peer_open
 }
 
+/// The first part of so many bytes that are cut into frames: what is over a whole number of full frames goes
+/// first, so that the others are full.
+fn first_part(len: usize) -> usize
+    ensures frame { result ≤ 16384 }
+    ensures part { result ≤ len }
+    ensures some { 0 < len → 0 < result }
+{
+    let over = len % FRAME_LIMIT;
+    if over == 0 {
+        len.min(FRAME_LIMIT)
+    } else {
+        over
+    }
+}
+
 /// How many bytes of DATA may go at once, or 0 where none may.
 fn sendable(window: &Window, stream: &Stream) -> u32
     ensures some { 0 < result → can_send result window.now stream.now ≡ true }
@@ -42,7 +57,7 @@ fn sendable(window: &Window, stream: &Stream) -> u32
     if !stream.own_open || allowed <= 0 {
         return 0;
     }
-    let count = stream.queue.len().min(FRAME_LIMIT);
+    let count = first_part(stream.queue.len());
     allowed.min(count as i64) as u32
 }
 

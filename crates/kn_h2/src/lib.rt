@@ -36,7 +36,7 @@ pub use call_laws::{
     answers_are_written, calls_are_written, windows_follow, windows_move, written_is_carried,
 };
 pub use conn::Conn;
-pub use kn_h2_state::{BeginRefusal, H2Event, QueueRefusal, Role};
+pub use kn_h2_state::{BeginRefusal, Events, H2Event, QueueRefusal, Role};
 pub use laws::frames_keep;
 pub use sending::sending_laws;
 pub use steady::{ends_are_written, moves_tell_nothing, role_stays};

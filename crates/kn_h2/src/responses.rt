@@ -7,7 +7,7 @@ ghost use Rattle.kn_h2.specs.Blocks.{answered_of, first_head, responded};
 use crate::ends::{ended_if, peer_ends};
 use crate::head_tests::is_malformed_response;
 use crate::resets::shut_at;
-use crate::status::is_informational;
+use crate::status::has_interim_status;
 use kn_h2_state::{H2Event, State, Stream, Streams, errors, is_open, reply_reset};
 use kn_hpack::Headers;
 use kn_io::NoMemory;
@@ -72,15 +72,17 @@ fn refuse_response(state: &mut State, number: u32) -> Result<(), NoMemory>
 }
 
 /// The first head on a stream: an interim response, a malformed one, or the head.
+#[tactic(auto, unfolding(kn_h2_state::specs::Heads::is_informational))]
 fn first_head(state: &mut State, number: u32, ends: bool, fields: Headers) -> Result<(), NoMemory>
     requires { number < 2 ^ 31 }
     ensures { OnOk result (state.new ≡ first_head number ends fields state.old) }
 {
-    let informational = is_informational(&fields);
+    let malformed = is_malformed_response(&fields);
+    let informational = has_interim_status(&fields) && !malformed;
     if informational && !ends {
         return Ok(());
     }
-    if is_malformed_response(&fields) || informational {
+    if malformed || informational {
         return refuse_response(state, number);
     }
     headed(state, number, ends, fields)

@@ -1,3 +1,4 @@
+ghost use Rattle.std.specs.Prelude.{◌≡◌, Some};
 ghost use Rattle.kn_h2_state.specs.Holding.{Holds};
 
 use kn_h2_state::{CONNECTION_WINDOW, DEFAULT_WINDOW, Outgoing, State};
@@ -10,7 +11,8 @@ const INTERNAL_ERROR: u32 = 2;
 /// After want of memory the connection has failed, and holds nothing that a rule could rest on. Takes no
 /// memory.
 pub fn ruin(state: &mut State, alloc: Global)
-    ensures { Holds state.new }
+    ensures holds { Holds state.new }
+    ensures failed { state.new.failed ≡ Some 2 }
 {
     state.failed = Some(INTERNAL_ERROR);
     state.block = None;

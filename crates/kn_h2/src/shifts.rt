@@ -1,14 +1,18 @@
-ghost use Rattle.std.specs.Prelude.{◌≡◌, ◌<◌, ◌^◌, length, slice_get, false, IfSome, OnOk};
+ghost use Rattle.std.specs.Prelude.{◌≡◌, ◌<◌, ◌≤◌, ◌^◌, length, slice_get, false, IfSome, OnOk};
 ghost use Rattle.std.specs.List.{AllByRecursion, list_any};
 ghost use Rattle.kn_h2_state.specs.Payloads.{settings_of};
 ghost use Rattle.kn_h2_state.specs.Rules.{shifted, shifted_one, shifts_over, breaks_windows};
-ghost use Rattle.kn_h2_state.specs.Effects.{after_setting, after_settings, settings};
+ghost use Rattle.kn_h2_state.specs.Limits.{largest_window};
+ghost use Rattle.kn_h2_state.specs.Effects.{after_settings, settings};
+ghost use Rattle.kn_h2_state.specs.Settings.{with_initial};
 ghost use Rattle.kn_h2_state.specs.Holding.{Holds, IsHigh};
 ghost use Rattle.kn_h2.specs.Places.{changed_at};
 
 use crate::windows::shift;
 use kn_frames::Frame;
-use kn_h2_state::{State, Stream, Streams, first_setting, flags, has, is_open, kinds, reply_frame};
+use kn_h2_state::{
+    State, Stream, Streams, flags, has, is_open, kinds, last_of, reply_frame, setting_numbers,
+};
 use kn_io::NoMemory;
 
 /// An open stream's sending window shifts.
@@ -50,33 +54,29 @@ fn shift_all(streams: &mut Streams, old: u32, new: u32)
     }
 }
 
-/// A setting (RFC 9113, section 6.5.2).
-#[tactic(auto, unfolding(kn_h2_state::specs::Effects::after_setting))]
-fn take_setting(state: &mut State, number: u16, value: u32)
+/// INITIAL_WINDOW_SIZE goes to this value, where there is one.
+fn take_initial(state: &mut State, value: Option<u32>)
     requires initial { state.old.initial < 2 ^ 31 }
     requires high { AllByRecursion (IsHigh state.old.initial) state.old.streams }
-    requires fits { number ≡ 4 → (value < 2 ^ 31) × (list_any (shifts_over state.old.initial value) state.old.streams ≡ false) }
-    ensures { state.new ≡ after_setting state.old (number, value) }
+    requires fits { IfSome value (λ v. (v ≤ largest_window) × (list_any (shifts_over state.old.initial v) state.old.streams ≡ false)) }
+    ensures { state.new ≡ with_initial value state.old }
 {
-    if number == 4 {
+    if let Some(value) = value {
         shift_all(&mut state.streams, state.initial, value);
         state.initial = value;
-    } else if number == 3 {
-        state.most = Some(value);
     }
 }
 
-/// The settings of a payload, in their order.
+/// The settings of a payload. Of each kind only the last counts, so all streams shift once.
 fn take_settings(state: &mut State, payload: &[u8])
     requires holds { Holds state.old }
     requires fits { breaks_windows state.old.initial state.old.streams (settings_of payload.now) ≡ false }
     ensures { state.new ≡ after_settings state.old (settings_of payload.now) }
 {
-    let mut rest = payload;
-    while let Some((setting, after)) = first_setting(rest) {
-        take_setting(state, setting.0, setting.1);
-        rest = after;
-    }
+    kn_h2_state::settings_at_once();
+    state.most = last_of(setting_numbers::MAX_CONCURRENT_STREAMS, state.most, payload);
+    let initial = last_of(setting_numbers::INITIAL_WINDOW_SIZE, None, payload);
+    take_initial(state, initial);
 }
 
 /// SETTINGS (RFC 9113, section 6.5): taken, and acknowledged.

@@ -1,5 +1,5 @@
 ghost use Rattle.std.specs.Prelude.{◌≡◌, ◌&&◌, bytes_eq, codes};
-ghost use Rattle.kn_h2_state.specs.Heads.{is_between, is_informational};
+ghost use Rattle.kn_h2_state.specs.Heads.{is_between, has_interim_status};
 
 use kn_hpack::Headers;
 
@@ -21,10 +21,9 @@ fn is_informational_status(name: &[u8], value: &[u8]) -> bool
     name == b":status".as_slice() && is_between(value)
 }
 
-/// An interim response (RFC 9113, section 8.1).
-#[tactic(auto, unfolding(kn_h2_state::specs::Heads::is_informational))]
-pub fn is_informational(headers: &Headers) -> bool
-    ensures { result ≡ is_informational headers.now }
+/// One of the fields is a status from 100 to 199.
+pub fn has_interim_status(headers: &Headers) -> bool
+    ensures { result ≡ has_interim_status headers.now }
 {
     for index in 0..headers.len() {
         if is_informational_status(headers.name(index), headers.value(index)) {

@@ -1,4 +1,4 @@
-ghost use Rattle.std.specs.Prelude.{◌≡◌, ◌≢◌, ◌<◌, ◌^◌, min, length, OnOk, OnErr, IfErr, Some, None};
+ghost use Rattle.std.specs.Prelude.{◌≡◌, ◌≢◌, ◌<◌, ◌^◌, ◌++◌, min, length, OnOk, OnErr, IfErr, Some, None};
 ghost use Rattle.kn_hpack.specs.Fields.{Field};
 ghost use Rattle.kn_h2_state.specs.Streams.{stream_at, change, on_open};
 ghost use Rattle.kn_h2_state.specs.Calls.{takes_more, refused_where, refusal, or_full, queue_of, queue_in, unsent, queue_refusal, with_queued, with_finish, after_queue, after_finish, after_reset};
@@ -150,6 +150,53 @@ pub fn queue(state: &mut State, number: u32, bytes: &[u8]) -> Result<(), QueueRe
     match queue_refusal(state, number) {
         Some(cause) => Err(cause),
         None => match queue_at(&mut state.streams, number, bytes) {
+            Ok(()) => Ok(()),
+            Err(NoMemory) => Err(QueueRefusal::NoMemory),
+        },
+    }
+}
+
+fn queue_two_in_one(stream: &mut Stream, front: &[u8], rest: &[u8]) -> Result<(), NoMemory>
+    ensures ok { OnOk result (stream.new ≡ with_queued (front.now ++ rest.now) stream.old) }
+    ensures err { OnErr result (stream.new ≡ stream.old) }
+{
+    stream.queue.append_two(front, rest)?;
+    Ok(())
+}
+
+#[tactic(auto, using(crate::proofs::StreamLemmas::change_none))]
+fn queue_two_at(
+    streams: &mut Streams,
+    number: u32,
+    front: &[u8],
+    rest: &[u8],
+) -> Result<(), NoMemory>
+    ensures ok { OnOk result (streams.new ≡ change streams.old number (with_queued (front.now ++ rest.now))) }
+    ensures err { OnErr result (streams.new ≡ streams.old) }
+{
+    match streams.get_mut(number) {
+        Some(stream) => queue_two_in_one(stream, front, rest),
+        None => Ok(()),
+    }
+}
+
+/// As `queue`, for bytes that stand in two places.
+#[tactic(auto, unfolding(kn_h2_state::specs::Calls::after_queue))]
+pub fn queue_two(
+    state: &mut State,
+    number: u32,
+    front: &[u8],
+    rest: &[u8],
+) -> Result<(), QueueRefusal>
+    requires { Holds state.old }
+    ensures ok { OnOk result ((queue_refusal state.old number ≡ None) × (state.new ≡ after_queue number (front.now ++ rest.now) state.old)) }
+    ensures err { IfErr result (λ e. e ≢ QueueRefusal.NoMemory → queue_refusal state.old number ≡ Some e) }
+    ensures kept { IfErr result (λ e. state.new ≡ state.old) }
+    ensures holds { Holds state.new }
+{
+    match queue_refusal(state, number) {
+        Some(cause) => Err(cause),
+        None => match queue_two_at(&mut state.streams, number, front, rest) {
             Ok(()) => Ok(()),
             Err(NoMemory) => Err(QueueRefusal::NoMemory),
         },

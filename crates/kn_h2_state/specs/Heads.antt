@@ -54,6 +54,10 @@ is_malformed_response fields = is_malformed response_names response_names fields
 abbrev pub is_between : List ℕ → Bool
 is_between value = (length value == 3) && (slice_index value 0 == 49) && list_all (λ c. nat_le 48 c && nat_le c 57) value
 
--- an interim response (section 8.1)
+-- one of the fields is such a status
+abbrev pub has_interim_status : List Field → Bool
+has_interim_status fields = list_any (λ f. bytes_eq f.name (codes ":status") && is_between f.value) fields
+
+-- an interim response (section 8.1): a head with such a status that is not malformed
 unfoldable pub is_informational : List Field → Bool
-is_informational fields = list_any (λ f. bytes_eq f.name (codes ":status") && is_between f.value) fields
+is_informational fields = has_interim_status fields && not (is_malformed_response fields)

@@ -13,6 +13,7 @@ pub mod Moves
 pub mod Calls
 pub mod Holding
 pub mod Verdicts
+pub mod Settings
 pub mod Laws
 pub mod Wire
 pub mod Telling

@@ -57,6 +57,22 @@ impl ByteQueue {
         Ok(())
     }
 
+    /// Adds a copy of bytes that stand in two places at the end. An `Err` changes nothing.
+    pub fn append_two(&mut self, front: &[u8], rest: &[u8]) -> Result<(), NoMemory>
+        ensures ok { OnOk result (self.new ≡ self.old ++ (front.now ++ rest.now)) }
+        ensures err { OnErr result (self.new ≡ self.old) }
+    {
+        let before = self.bytes.len();
+        self.bytes.extend_from_slice(front)?;
+        match self.bytes.extend_from_slice(rest) {
+            Ok(()) => Ok(()),
+            Err(_error) => {
+                self.bytes.truncate(before);
+                Err(NoMemory)
+            }
+        }
+    }
+
     /// Takes the first bytes away, and moves none. A queue that has become empty keeps no large room.
     pub fn advance(&mut self, count: usize)
         requires { count ≤ length self.old }

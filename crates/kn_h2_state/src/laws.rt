@@ -7,6 +7,7 @@ ghost use Rattle.kn_h2_state.specs.Laws.{AnyPieces, FailsFirst, FramesLeaveOther
 ghost use Rattle.kn_h2_state.specs.Hearing.{FramesAreHeard, ClosedTextStays, ClosedStaysClosed};
 ghost use Rattle.kn_h2_state.specs.InStep.{NextIsRead};
 ghost use Rattle.kn_h2_state.specs.Preorder.{MoreIsHeard, FramesKeepMore, MoreIsAccepted, OwnStepsAreHeard, HearsMoreInTurn, OwnFactsBegin, OwnFactsAreKept};
+ghost use Rattle.kn_h2_state.specs.Settings.{SettingsAtOnce, LastFits};
 ghost use Rattle.kn_h2_state.specs.Opening.{FramesOpenAbove, AnsweredIsKept};
 
 /// While a connection has not failed, two pieces of its bytes are as good as their join.
@@ -133,4 +134,11 @@ pub fn own_steps_are_heard()
 pub fn own_facts_stay()
     ensures first { OwnFactsBegin }
     ensures kept { OwnFactsAreKept }
+{}
+
+/// Settings that are taken in turn change what the last of each kind changes, and bring no window over the
+/// largest by it where none in turn does.
+pub fn settings_at_once()
+    ensures once { SettingsAtOnce }
+    ensures fits { LastFits }
 {}

@@ -44,7 +44,7 @@ pub use laws::{
     answered_is_kept, any_pieces, closed_text_stays, ends_are_told, fails_first,
     frames_are_answered, frames_are_heard, heads_are_written, more_is_heard, moves_are_written,
     next_block_is_read, opened_is_above, others_are_left, own_facts_stay, own_steps_are_heard,
-    text_grows, text_is_told, wire_splits, written_is_read,
+    settings_at_once, text_grows, text_is_told, wire_splits, written_is_read,
 };
 pub use limits::{
     BLOCK_LIMIT, CONNECTION_WINDOW, DEFAULT_WINDOW, FRAME_LIMIT, FULL_OUT, GRANT_SIZE,
@@ -55,7 +55,7 @@ pub use outgoing::Outgoing;
 pub use payload::{content, has, increment, number_at};
 pub use refusal::{BeginRefusal, QueueRefusal};
 pub use role::Role;
-pub use settings::first_setting;
+pub use settings::{first_setting, last_of};
 pub use state::{Block, State};
 pub use stream::Stream;
 pub use streams::{Streams, is_kept, is_open};

@@ -1,8 +1,8 @@
-ghost use Rattle.std.specs.Prelude.{◌≡◌, ◌<◌, ◌∷◌, [], length, MatchOption};
+ghost use Rattle.std.specs.Prelude.{◌≡◌, ◌<◌, ◌==◌, ◌∷◌, [], length, MatchOption, Some, None, if◌then◌else◌};
 ghost use Rattle.std.specs.List.{list_any};
 ghost use Rattle.kn_h2_state.specs.Payloads.{settings_of};
 ghost use Rattle.kn_h2_state.specs.Rules.{is_bad_setting, breaks_windows, shifts_over};
-ghost use Rattle.kn_h2_state.specs.Verdicts.{sets_over};
+ghost use Rattle.kn_h2_state.specs.Settings.{larger, largest_initial, is_over_by, last_of};
 
 use crate::codes::setting_numbers;
 use crate::limits::LARGEST_WINDOW;
@@ -66,27 +66,82 @@ fn shifts_any_over(initial: u32, value: u32, streams: &[Stream]) -> bool
         .any(|stream| shifts_over(initial, value, stream))
 }
 
-/// A setting brings INITIAL_WINDOW_SIZE, or by it a sending window, over the largest.
-fn sets_over(state: &State, setting: (u16, u32)) -> bool
-    ensures { result ≡ sets_over state.now.initial state.now.streams setting }
+/// The larger of a value and the one before.
+fn larger(before: Option<u32>, value: u32) -> Option<u32>
+    ensures { result ≡ larger before value }
 {
-    let (number, value) = setting;
-    number == setting_numbers::INITIAL_WINDOW_SIZE
-        && (value > LARGEST_WINDOW
-            || shifts_any_over(state.initial, value, state.streams.as_slice()))
+    match before {
+        None => Some(value),
+        Some(most) => Some(if most < value { value } else { most }),
+    }
+}
+
+fn larger_initial(before: Option<u32>, setting: (u16, u32)) -> Option<u32>
+    ensures { result ≡ (if setting.0 == 4 then larger before setting.1 else before) }
+{
+    if setting.0 == setting_numbers::INITIAL_WINDOW_SIZE {
+        larger(before, setting.1)
+    } else {
+        before
+    }
+}
+
+/// The largest INITIAL_WINDOW_SIZE of a payload.
+#[tactic(auto, unfolding(crate::specs::Settings::largest_initial))]
+fn largest_initial(payload: &[u8]) -> Option<u32>
+    ensures { result ≡ largest_initial None (settings_of payload.now) }
+{
+    let mut most = None;
+    let mut rest = payload;
+    while let Some((setting, after)) = first_setting(rest) {
+        most = larger_initial(most, setting);
+        rest = after;
+    }
+    most
+}
+
+/// This INITIAL_WINDOW_SIZE, or by it a sending window, is over the largest.
+fn is_over_by(state: &State, value: Option<u32>) -> bool
+    ensures { result ≡ is_over_by state.now.initial state.now.streams value }
+{
+    match value {
+        None => false,
+        Some(value) => {
+            value > LARGEST_WINDOW
+                || shifts_any_over(state.initial, value, state.streams.as_slice())
+        }
+    }
 }
 
 /// The settings of a payload, taken in turn, bring INITIAL_WINDOW_SIZE or a sending window over the largest.
-#[tactic(auto, using(crate::proofs::SettingFacts::breaks_windows_any))]
+/// All streams are looked at once: the largest value decides.
+#[tactic(auto, using(crate::proofs::SettingFacts::breaks_by_largest))]
 pub fn breaks_windows(state: &State, payload: &[u8]) -> bool
     ensures { result ≡ breaks_windows state.now.initial state.now.streams (settings_of payload.now) }
 {
+    is_over_by(state, largest_initial(payload))
+}
+
+fn later_of(number: u16, before: Option<u32>, setting: (u16, u32)) -> Option<u32>
+    ensures { result ≡ (if setting.0 == number then Some setting.1 else before) }
+{
+    if setting.0 == number {
+        Some(setting.1)
+    } else {
+        before
+    }
+}
+
+/// The last value of a setting in a payload, or the one before where there is none.
+#[tactic(auto, unfolding(crate::specs::Settings::last_of))]
+pub fn last_of(number: u16, before: Option<u32>, payload: &[u8]) -> Option<u32>
+    ensures { result ≡ last_of number before (settings_of payload.now) }
+{
+    let mut last = before;
     let mut rest = payload;
     while let Some((setting, after)) = first_setting(rest) {
-        if sets_over(state, setting) {
-            return true;
-        }
+        last = later_of(number, last, setting);
         rest = after;
     }
-    false
+    last
 }

@@ -8,8 +8,8 @@ overflow_cast-count c =
     let f : c.args.count < 4294967296 = omega arith in
     search rules
 
-pub take_at-requires-clause-fits : goal.take_at-requires-clause-fits
-take_at-requires-clause-fits c = text_owed_one c.args.state.now c.args.number c.args.count c.requires.holds c.requires.part
+pub take_and_tidy-requires-clause-fits : goal.take_and_tidy-requires-clause-fits
+take_and_tidy-requires-clause-fits c = text_owed_one c.args.state.now c.args.number c.args.count c.requires.holds c.requires.part
 
 pub overflow_add-state : goal.overflow_add-state
 overflow_add-state c =
@@ -17,4 +17,4 @@ overflow_add-state c =
     search rules
 
 pub returns-clause-holds : goal.returns-clause-holds
-returns-clause-holds c = rw (c.tidy.ensures, c.take_at.ensures) (holds_take c.args.state.now c.args.number c.args.count c.requires.part c.requires.holds)
+returns-clause-holds c = rw c.take_and_tidy.ensures (holds_take c.args.state.now c.args.number c.args.count c.requires.part c.requires.holds)
