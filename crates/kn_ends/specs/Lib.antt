@@ -1,0 +1,4 @@
+pub mod Numbers
+pub mod Inlets
+pub mod Queues
+pub mod Carriers

@@ -1,0 +1,51 @@
+use crate::Rising;
+use kn_io::NoMemory;
+use std::alloc::Global;
+use std::test::Fail;
+
+#[derive(Drop)]
+struct Word {
+    letter: u8,
+}
+
+/// The letter of a number, or 0.
+fn letter(words: &Rising<Word>, number: u64) -> u8 {
+    match words.get(number) {
+        Some(word) => word.letter,
+        None => 0,
+    }
+}
+
+/// Inserts, changes and removes.
+fn words(alloc: Global) -> Result<Rising<Word>, NoMemory> {
+    let mut words = Rising::new(alloc);
+    words.insert(5, Word { letter: b'e' })?;
+    words.insert(9, Word { letter: b'x' })?;
+    words.insert(2, Word { letter: b'b' })?;
+    words.insert(7, Word { letter: b'g' })?;
+    words.insert(9, Word { letter: b'i' })?;
+    words.remove(5);
+    words.remove(6);
+    if let Some(word) = words.get_mut(2) {
+        word.letter = b'B';
+    }
+    Ok(words)
+}
+
+#[test]
+fn members_by_number(rt: HostRuntime) -> Result<(), Fail> {
+    let words = words(rt.alloc())?;
+    assert_eq!(words.numbers(), &[2, 7, 9]);
+    assert_eq!(words.len(), 3);
+    assert_eq!(words.items().len(), 3);
+    let found = [
+        letter(&words, 1),
+        letter(&words, 2),
+        letter(&words, 5),
+        letter(&words, 7),
+        letter(&words, 9),
+    ];
+    assert_eq!(found, [0, b'B', 0, b'g', b'i']);
+    words.holds();
+    Ok(())
+}
