@@ -1,0 +1,10 @@
+use Rattle.std.proofs.Common.{◌∙◌, ap}
+use Rattle.clap.specs.Words.{is_simple, is_simple_and_free}
+use Rattle.kn_options.proofs.SimpleCommands.{server_simple, server_free}
+use Rattle.kn_options.proofs.reading.read_server.Goals as goal
+
+pub parse-requires : goal.parse-requires
+parse-requires c = record {
+  simple = ap is_simple c.in_ok-command.ensures ∙ server_simple;
+  free = ap is_simple_and_free c.in_ok-command.ensures ∙ server_free;
+}
