@@ -1,0 +1,5 @@
+pub mod Waiting
+pub mod Nodes
+pub mod Steps
+pub mod Calls
+pub mod Answers

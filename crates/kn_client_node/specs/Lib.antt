@@ -1,0 +1,5 @@
+pub mod Texts
+pub mod Streams
+pub mod Nodes
+pub mod Steps
+pub mod Calls
