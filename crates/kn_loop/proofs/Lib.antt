@@ -1,0 +1,5 @@
+pub mod Covering
+pub mod Giving
+pub mod Making
+pub mod Numbers
+pub mod Starting

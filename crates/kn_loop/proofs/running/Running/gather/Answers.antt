@@ -1,0 +1,13 @@
+use Rattle.std.proofs.Common.{◌≡◌, ◌∷◌, ◌++◌, ◌≤◌, ◌<◌, ◌+◌, ℕ, List, [], true, false, rules, refl, sym, ap, ◌∙◌, subst, arith, length, take, drop}
+use Rattle.kn_loop.specs.Kept.{is_in, line_of}
+use Rattle.kn_loop.specs.Turns.{NoneDue}
+use Rattle.kn_loop.proofs.running.Running.gather.Goals as goal
+
+pub loop-conn-preserved : goal.loop-conn-preserved
+loop-conn-preserved g c = record {
+  none = rw (c.keep_one.ensures.watch, c.keep_one.ensures.node) c.loop-conn.invariant.none;
+  covers = c.in_ok-keep_one.ensures.covers;
+  busy = c.in_ok-keep_one.ensures.busy;
+  node = c.keep_one.ensures.node ∙ c.loop-conn.invariant.node;
+  watch = c.keep_one.ensures.watch ∙ c.loop-conn.invariant.watch;
+}

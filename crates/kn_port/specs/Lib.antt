@@ -1,0 +1,5 @@
+pub mod Answers
+pub mod Journal
+pub mod Keeping
+pub mod Memory
+pub mod Numbers

@@ -1,0 +1,12 @@
+use Rattle.kn_ends.specs.Carriers.{on_inlet, after_read, taken_from, finish_stream, reset_stream, with_end, with_reset, fed_with, without_events}
+use Rattle.kn_server_node.specs.Doors as door
+use Rattle.kn_server_node.specs.Ends.{on_carrier, on_door, accepted, closed, lost, took}
+use Rattle.kn_server_node.proofs.NoteLemmas.{keeps_noted, change_noted, none_noted}
+use Rattle.kn_server_node.proofs.connections.Connections.keep_early.Goals as goal
+
+pub invariant_of-self-in-Ok : goal.invariant_of-self-in-Ok
+invariant_of-self-in-Ok c = change_noted c.args.conn (on_door (door.with_early c.args.piece.now)) c.self.inside.ends c.keep_early_at.new.ends c.note.new.notes c.in-Ok.ensures
+    (keeps_noted c.self.inside.ends c.self.inside.notes c.note.new.notes c.self.invariant c.note.ensures.kept) c.in_ok-note.ensures.noted
+
+pub invariant_of-self-in-Err : goal.invariant_of-self-in-Err
+invariant_of-self-in-Err c = rw c.new.ensures (none_noted c.note.new.notes)

@@ -1,0 +1,9 @@
+use Rattle.kn_server_node.proofs.NoteLemmas.{keeps_noted, filled_noted, none_noted}
+use Rattle.kn_server_node.proofs.connections.Connections.write.Goals as goal
+
+pub invariant_of-self-in-Ok : goal.invariant_of-self-in-Ok
+invariant_of-self-in-Ok c = filled_noted c.args.conn c.self.inside.ends c.write_at.new.ends c.note.new.notes c.in-Ok.ensures.made
+    (keeps_noted c.self.inside.ends c.self.inside.notes c.note.new.notes c.self.invariant c.note.ensures.kept) c.in_ok-note.ensures.noted
+
+pub invariant_of-self-in-Err : goal.invariant_of-self-in-Err
+invariant_of-self-in-Err c = rw c.new.ensures (none_noted c.note.new.notes)

@@ -1,0 +1,11 @@
+pub mod Losing
+pub mod Doors
+pub mod Ends
+pub mod Nodes
+pub mod Callers
+pub mod Steps
+pub mod Calls
+pub mod Noting
+pub mod Fronts
+pub mod Least
+pub mod Tasks

@@ -1,0 +1,46 @@
+// The server node: connections of HTTP/2 whose streams carry packets, connections by CONNECT, and the
+// server's core.
+#![tactic(auto)]
+
+mod at;
+mod callers;
+mod candidate;
+mod choosing;
+mod connecting;
+mod connections;
+mod door;
+mod doors;
+mod end;
+mod front;
+mod handling;
+mod hearing;
+mod kind;
+mod limits;
+mod loss;
+mod losses;
+mod node;
+mod notes;
+mod numbers;
+mod one;
+mod outputs;
+mod pauses;
+mod place;
+mod places;
+mod server_node;
+mod settling;
+mod standing;
+mod task;
+
+pub use connections::Connections;
+pub use door::Door;
+pub use end::End;
+pub use kind::ServerKind;
+pub use loss::Loss;
+pub use losses::Losses;
+pub use node::Node;
+pub use place::Place;
+pub use places::Places;
+pub use server_node::ServerNode;
+
+#[cfg(test)]
+mod tests;
