@@ -29,6 +29,3 @@ pub use purpose::Purpose;
 pub use request::Request;
 pub use requests::Requests;
 pub use side::Side;
-
-#[cfg(test)]
-mod tests;

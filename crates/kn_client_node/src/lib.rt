@@ -29,6 +29,3 @@ pub use endings::Endings;
 pub use node::Node;
 pub use side::Side;
 pub use tunnel::Tunnel;
-
-#[cfg(test)]
-mod tests;

@@ -1,10 +1,11 @@
 // Turns over a port in memory, of a node that always says the same.
+ghost use Rattle.kn_loop.specs.Turns.{Steady};
 ghost use Rattle.std.specs.Prelude.{ℕ, ◌≡◌, ◌==◌, Bool, true, not, List, [], ◌∷◌, length, ⊤, if◌then◌else◌};
 
 use crate::{Awake, Course, Gates, Node, Running, Turn, listen_at};
-use kn_io::{Blob, NoMemory, Text};
+use kn_io::{NoMemory, Text};
 use kn_port::{
-    Accepted, DialEnd, Dialled, Entry, Gate, Listened, MemPort, PortGot, Tick, Took, Waited,
+    Accepted, DialEnd, Dialled, Entry, Gate, Listened, MemPort, Port, PortGot, Tick, Took, Waited,
 };
 use std::alloc::Global;
 
@@ -163,22 +164,38 @@ fn told(alloc: Global, journal: &[Entry]) -> Result<String, NoMemory> {
     Ok(text)
 }
 
-/// A server of agents and clients that has listened.
-fn server(
+/// Turns until one ends, 40 at most.
+fn turns<N: Node + Drop, P: Port>(running: &mut Running<N>, port: &mut P) -> Turn
+    requires { Steady running.old.busy.items running.old.awake running.old.watch (N.answers running.old.node) (N.top running.old.node) (P.last port.old) (P.told port.old) }
+{
+    for _round in 0..40 {
+        match running.turn(port) {
+            Turn::More => {}
+            Turn::Done => return Turn::Done,
+            Turn::Bound => return Turn::Bound,
+            Turn::BindFault => return Turn::BindFault,
+            Turn::WaitFault => return Turn::WaitFault,
+            Turn::ServerLost => return Turn::ServerLost,
+            Turn::NoMemory => return Turn::NoMemory,
+        }
+    }
+    Turn::More
+}
+
+/// What the turns of a server of agents and clients over these ticks leave in the journal, and the last answer.
+fn run(
     alloc: Global,
-    port: &mut MemPort,
-    out: &[u8],
+    ticks: Vec<Tick>,
     shuts: bool,
-    turns: u64,
-) -> Result<Running<Fixed>, NoMemory> {
+    turns_wanted: u64,
+) -> Result<(String, Turn), NoMemory> {
+    let mut port = MemPort::new(alloc, false, ticks);
     let mut gates = Gates::none();
-    listen_at(port, &mut gates, Gate::Agents, "a");
-    listen_at(port, &mut gates, Gate::Clients, "b");
-    let mut bytes = Vec::new(alloc);
-    bytes.extend_from_slice(out)?;
+    listen_at(&mut port, &mut gates, Gate::Agents, "a");
+    listen_at(&mut port, &mut gates, Gate::Clients, "b");
     let node = Fixed {
         wants: true,
-        out: bytes,
+        out: Vec::new(alloc),
         shuts,
         dials: false,
         lost: false,
@@ -187,49 +204,32 @@ fn server(
     };
     let course = Course {
         tunnels: 0,
-        turns,
+        turns: turns_wanted,
         turn: 1,
     };
-    Running::new(alloc, node, None, gates, 0, course)
-}
-
-/// What the turns of a server over these ticks leave in the journal, and the last answer.
-fn run(
-    alloc: Global,
-    ticks: Vec<Tick>,
-    out: &[u8],
-    shuts: bool,
-    turns: u64,
-) -> Result<(String, Turn), NoMemory> {
-    let mut port = MemPort::new(alloc, false, ticks);
-    let mut running = server(alloc, &mut port, out, shuts, turns)?;
-    let mut last = Turn::More;
-    for _round in 0..40 {
-        if last == Turn::More {
-            last = running.turn(&mut port);
-        }
-    }
+    let mut running = Running::new(alloc, node, None, gates, 0, course)?;
+    let last = turns(&mut running, &mut port);
     Ok((told(alloc, port.journal())?, last))
 }
 
 #[test]
 fn turns_leave_these_entries(rt: HostRuntime) -> Result<(), NoMemory> {
     let alloc = rt.alloc();
-    let (text, last) = run(alloc, Vec::new(alloc), b"", false, 0)?;
+    let (text, last) = run(alloc, Vec::new(alloc), false, 0)?;
     assert!(&rt; text.as_str() == "listen listen accept? accept? wait! ");
     assert!(&rt; last == Turn::WaitFault);
-    let (text, last) = run(alloc, Vec::new(alloc), b"", false, 2)?;
+    let (text, last) = run(alloc, Vec::new(alloc), false, 2)?;
     assert!(&rt; text.as_str() == "listen listen accept? accept? ");
     assert!(&rt; last == Turn::Bound);
     let mut ticks = Vec::new(alloc);
     ticks.push(Tick::FailAccept(Gate::Agents))?;
     ticks.push(Tick::Arrive(Gate::Agents))?;
-    let (text, _) = run(alloc, ticks, b"", false, 0)?;
+    let (text, _) = run(alloc, ticks, false, 0)?;
     let expected = "listen listen accept? accept? wait accept! wait accept read? accept? wait! ";
     assert!(&rt; text.as_str() == expected);
     let mut ticks = Vec::new(alloc);
     ticks.push(Tick::Arrive(Gate::Clients))?;
-    let (text, _) = run(alloc, ticks, b"", true, 0)?;
+    let (text, _) = run(alloc, ticks, true, 0)?;
     assert!(&rt; text.as_str() == "listen listen accept? accept? wait accept shut accept? wait! ");
     Ok(())
 }

@@ -5,8 +5,6 @@ mod gates;
 mod port;
 mod rounds;
 mod socket;
-#[cfg(test)]
-mod tests;
 mod trouble;
 
 pub use port::MioPort;

@@ -6,45 +6,66 @@ use kn_io::{Blob, NoMemory};
 use std::alloc::Global;
 use std::test::Fail;
 
-#[derive(Clone, Copy, Debug, PartialEq, Eq)]
-enum Ask {
-    Wait,
-    Read,
-    Write,
-    DialEnd,
-    Shut,
+fn mark_of_wait(waited: Waited, first: Option<&Ready>) -> u8 {
+    match (waited, first) {
+        (Waited::Ready, Some(Ready::Conn(1))) => b'1',
+        (Waited::Ready, Some(Ready::Conn(2))) => b'2',
+        (Waited::Failed, None) => b'x',
+        _ => b'?',
+    }
 }
 
-#[derive(Clone, Copy, Debug, PartialEq, Eq)]
-enum Answer {
-    Waited(Waited, Option<Ready>),
-    Got(PortGot, [u8; 4]),
-    Took(Took),
-    Dial(DialEnd),
-    Shut,
+fn mark_of_read(got: PortGot, first: u8) -> u8 {
+    match got {
+        PortGot::Bytes(_) => first,
+        PortGot::NotYet => b'-',
+        PortGot::End => b'e',
+        PortGot::Failed => b'x',
+        PortGot::NoMemory => b'?',
+    }
 }
 
-// One call for the connection 1. A read has room for four bytes, and a write has five.
-fn answer_to(alloc: Global, port: &mut MemPort, question: Ask) -> Answer
+fn mark_of_write(took: Took) -> u8 {
+    match took {
+        Took::Bytes(5) => b'5',
+        Took::Bytes(2) => b'2',
+        Took::Bytes(_) => b'?',
+        Took::NotYet => b'-',
+        Took::Failed => b'x',
+        Took::NoMemory => b'?',
+    }
+}
+
+fn mark_of_dial(end: DialEnd) -> u8 {
+    match end {
+        DialEnd::Up => b'u',
+        DialEnd::NotYet => b'-',
+        DialEnd::Failed => b'x',
+        DialEnd::NoMemory => b'?',
+    }
+}
+
+// One call for the connection 1, by its letter: a read has room for four bytes, and a write has five.
+fn answer_to(alloc: Global, port: &mut MemPort, question: u8) -> u8
     requires given { 1 ≤ length port.old.net.lines }
     ensures last { length port.new.net.lines ≡ length port.old.net.lines }
 {
     match question {
-        Ask::Wait => {
+        b'W' => {
             let mut ready = Woken::new(alloc);
             let waited = port.wait(&mut ready);
-            Answer::Waited(waited, ready.as_slice().first().copied())
+            mark_of_wait(waited, ready.as_slice().first())
         }
-        Ask::Read => {
+        b'r' => {
             let mut room = [b'.'; 4];
             let got = port.read(1, &mut room);
-            Answer::Got(got, room)
+            mark_of_read(got, room[0])
         }
-        Ask::Write => Answer::Took(port.write(1, b"abcde")),
-        Ask::DialEnd => Answer::Dial(port.dial_end(1)),
-        Ask::Shut => {
+        b'w' => mark_of_write(port.write(1, b"abcde")),
+        b'd' => mark_of_dial(port.dial_end(1)),
+        _ => {
             port.shut(1);
-            Answer::Shut
+            b's'
         }
     }
 }
@@ -81,22 +102,19 @@ fn dials(alloc: Global, port: &mut MemPort) -> bool
         && port.dial("there:1") == Dialled::Conn(1)
 }
 
-// How many rows are answered as they say, from the first on.
-fn count_right(alloc: Global, port: &mut MemPort, rows: &[(Ask, Answer)]) -> usize
+// How many calls are answered as they should be, from the first on.
+fn count_right(alloc: Global, port: &mut MemPort, questions: &[u8], wants: &[u8]) -> usize
     requires given { 1 ≤ length port.old.net.lines }
 {
     let mut count = 0usize;
-    for (question, want) in rows {
-        if answer_to(alloc, port, *question) != *want {
+    for question in questions {
+        let answer = answer_to(alloc, port, *question);
+        if wants.get(count) != Some(&answer) {
             return count;
         }
         count = count.saturating_add(1);
     }
     count
-}
-
-fn named(conn: u64) -> Answer {
-    Answer::Waited(Waited::Ready, Some(Ready::Conn(conn)))
 }
 
 fn count_shuts(entries: &[Entry]) -> usize {
@@ -132,33 +150,13 @@ fn a_connection_at_a_gate_answers_by_its_ticks(rt: HostRuntime) -> Result<(), Fa
     let alloc = rt.alloc();
     let mut port = MemPort::new(alloc, false, ticks_of_a_connection(alloc)?);
     assert!(rt; arrives(alloc, &mut port));
-    let rows = [
-        (Ask::Read, Answer::Got(PortGot::NotYet, *b"....")),
-        (Ask::Wait, named(1)),
-        (Ask::Read, Answer::Got(PortGot::Bytes(4), *b"hell")),
-        (Ask::Read, Answer::Got(PortGot::Bytes(1), *b"o...")),
-        (Ask::Read, Answer::Got(PortGot::NotYet, *b"....")),
-        (Ask::Write, Answer::Took(Took::NotYet)),
-        (Ask::Wait, named(1)),
-        (Ask::Write, Answer::Took(Took::Bytes(5))),
-        (Ask::Write, Answer::Took(Took::Bytes(2))),
-        (Ask::Write, Answer::Took(Took::NotYet)),
-        (Ask::Wait, named(2)),
-        (Ask::Wait, named(1)),
-        (Ask::DialEnd, Answer::Dial(DialEnd::Up)),
-        (Ask::Wait, named(1)),
-        (Ask::Read, Answer::Got(PortGot::End, *b"....")),
-        (Ask::Read, Answer::Got(PortGot::End, *b"....")),
-        (Ask::Wait, named(1)),
-        (Ask::Read, Answer::Got(PortGot::Failed, *b"....")),
-        (Ask::Wait, named(1)),
-        (Ask::Write, Answer::Took(Took::Failed)),
-        (Ask::Wait, Answer::Waited(Waited::Failed, None)),
-        (Ask::Wait, Answer::Waited(Waited::Failed, None)),
-        (Ask::Shut, Answer::Shut),
-        (Ask::Shut, Answer::Shut),
-    ];
-    assert_eq!(rt; count_right(alloc, &mut port, &rows), rows.len());
+    let right = count_right(
+        alloc,
+        &mut port,
+        b"rWrrrwWwwwWWdWrrWrWwWWss",
+        b"-1ho--152-21u1ee1x1xxxss",
+    );
+    assert_eq!(rt; right, 24);
     assert_eq!(rt; count_shuts(port.journal()), 1);
     assert_eq!(rt; port.journal().len(), 26);
     Ok(())
@@ -179,14 +177,6 @@ fn a_dial_answers_by_its_ticks(rt: HostRuntime) -> Result<(), Fail> {
     let mut port = MemPort::new(alloc, true, ticks_of_a_dial(alloc)?);
     assert!(rt; fails_at_its_gate(alloc, &mut port));
     assert!(rt; dials(alloc, &mut port));
-    let rows = [
-        (Ask::DialEnd, Answer::Dial(DialEnd::NotYet)),
-        (Ask::Wait, named(1)),
-        (Ask::DialEnd, Answer::Dial(DialEnd::Up)),
-        (Ask::Wait, named(1)),
-        (Ask::DialEnd, Answer::Dial(DialEnd::Up)),
-        (Ask::Wait, Answer::Waited(Waited::Failed, None)),
-    ];
-    assert_eq!(rt; count_right(alloc, &mut port, &rows), rows.len());
+    assert_eq!(rt; count_right(alloc, &mut port, b"dWdWdW", b"-1u1ux"), 6);
     Ok(())
 }

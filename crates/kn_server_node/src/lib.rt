@@ -41,6 +41,3 @@ pub use node::Node;
 pub use place::Place;
 pub use places::Places;
 pub use server_node::ServerNode;
-
-#[cfg(test)]
-mod tests;
