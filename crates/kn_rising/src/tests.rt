@@ -35,9 +35,9 @@ fn words(alloc: Global) -> Result<Rising<Word>, NoMemory> {
 #[test]
 fn members_by_number(rt: HostRuntime) -> Result<(), Fail> {
     let words = words(rt.alloc())?;
-    assert_eq!(words.numbers(), &[2, 7, 9]);
-    assert_eq!(words.len(), 3);
-    assert_eq!(words.items().len(), 3);
+    assert_eq!(rt; words.numbers(), [2, 7, 9].as_slice());
+    assert_eq!(rt; words.len(), 3);
+    assert_eq!(rt; words.items().len(), 3);
     let found = [
         letter(&words, 1),
         letter(&words, 2),
@@ -45,7 +45,7 @@ fn members_by_number(rt: HostRuntime) -> Result<(), Fail> {
         letter(&words, 7),
         letter(&words, 9),
     ];
-    assert_eq!(found, [0, b'B', 0, b'g', b'i']);
+    assert_eq!(rt; found, [0, b'B', 0, b'g', b'i']);
     words.holds();
     Ok(())
 }
