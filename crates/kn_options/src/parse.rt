@@ -6,7 +6,10 @@ use clap::{ArgMatches, Command};
 use kn_io::NoMemory;
 
 /// The values that the words give to the options of a command, or none where the command does not take the words.
-pub(crate) fn parse<'a>(command: Command<'a>, words: &'a [&'a str]) -> Result<Option<ArgMatches<'a>>, NoMemory>
+pub(crate) fn parse<'a>(
+    command: Command<'a>,
+    words: &'a [&'a str],
+) -> Result<Option<ArgMatches<'a>>, NoMemory>
     requires simple { is_simple (app_of command) ≡ true }
     requires free { is_simple_and_free (app_of command) ≡ true }
     ensures taken { IfOk result (λ found. IfSome found (λ _. fault_of (app_of command.entry) (map (λ word. word.now) words.now) ≡ [])) }

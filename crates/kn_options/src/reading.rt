@@ -11,14 +11,19 @@ ghost use Rattle.kn_options.specs.declared.options.ClientOptions.{ClientOptions}
 use crate::command::{agent_command, client_command, server_command};
 use crate::parse::{parse, value_of};
 use crate::program::{Program, program_named};
-use crate::values::{copy_of, has_host, has_identifiers, is_id, number_or_zero, strategies_of, text_or};
+use crate::values::{
+    copy_of, has_host, has_identifiers, is_id, number_or_zero, strategies_of, text_or,
+};
 use crate::{AgentOptions, ClientOptions, Options, ServerOptions};
 use clap::ArgMatches;
 use kn_io::{NoMemory, Text};
 use std::alloc::Global;
 
 /// The options of `server`, or none where a value is out of form.
-fn server_options(alloc: Global, matches: &ArgMatches<'_>) -> Result<Option<ServerOptions>, NoMemory>
+fn server_options(
+    alloc: Global,
+    matches: &ArgMatches<'_>,
+) -> Result<Option<ServerOptions>, NoMemory>
     ensures found { IfOk result (λ found. IfSome found (IsServer (rows_of (found_of matches.now)))) }
     ensures none { IfOk result (λ found. IfNone found ((o : ServerOptions) → ¬ IsServer (rows_of (found_of matches.now)) o)) }
 {
@@ -91,7 +96,10 @@ fn agent_options(alloc: Global, matches: &ArgMatches<'_>) -> Result<Option<Agent
 }
 
 /// The options of `client`, or none where a value is out of form.
-fn client_options(alloc: Global, matches: &ArgMatches<'_>) -> Result<Option<ClientOptions>, NoMemory>
+fn client_options(
+    alloc: Global,
+    matches: &ArgMatches<'_>,
+) -> Result<Option<ClientOptions>, NoMemory>
     ensures found { IfOk result (λ found. IfSome found (IsClient (rows_of (found_of matches.now)))) }
     ensures none { IfOk result (λ found. IfNone found ((o : ClientOptions) → ¬ IsClient (rows_of (found_of matches.now)) o)) }
 {
