@@ -12,8 +12,6 @@ mod lines;
 mod node;
 mod running;
 mod sweeping;
-#[cfg(test)]
-mod tests;
 mod turn;
 mod turning;
 mod visits;
