@@ -1,5 +1,5 @@
 -- Who is awake, and who is left to visit: what each part of a turn keeps of it.
-use Rattle.std.proofs.Common.{◌≡◌, ℕ, ◌==◌, ◌+◌, ◌⊎◌, inl, inr, Bool, true, false, not, ◌||◌, ◌&&◌, List, [], ◌∷◌, ◌++◌, ◌<◌, ◌≤◌, length, take, drop, None, Some, sym, refl, ap, ◌∙◌, subst, cond, eqb, ltb, arith}
+use Rattle.std.proofs.Common.{◌≡◌, ℕ, ◌==◌, ◌⊎◌, inl, inr, Bool, true, false, ◌||◌, ◌&&◌, List, [], ◌∷◌, ◌++◌, length, take, drop, None, Some, sym, refl, ap, ◌∙◌, subst, arith}
 use Rattle.std.specs.Prelude.{Option, is_some, if◌then◌else◌}
 use Rattle.std.specs.Ordering.{nat_cmp}
 use Rattle.std.specs.BTreeMap.{is_at}
@@ -62,11 +62,11 @@ pub or_right : (b x : Bool) → b ≡ false → (b || x) ≡ true → x ≡ true
 or_right true x e h = cc
 or_right false x e h = h
 
-or_first : (b x : Bool) → b ≡ true → (b || x) ≡ true
+pub or_first : (b x : Bool) → b ≡ true → (b || x) ≡ true
 or_first true x e = refl
 or_first false x e = cc
 
-or_second : (b x : Bool) → x ≡ true → (b || x) ≡ true
+pub or_second : (b x : Bool) → x ≡ true → (b || x) ≡ true
 or_second true x e = refl
 or_second false x e = e
 
@@ -80,11 +80,11 @@ front_at : (x : ℕ) (xs ys : List ℕ) (c : ℕ) (b : Bool) → is_at (nat_cmp 
 front_at x xs ys c true e later h = or_first (is_at (nat_cmp c) x) (is_in (xs ++ ys) c) e
 front_at x xs ys c false e later h = or_second (is_at (nat_cmp c) x) (is_in (xs ++ ys) c) (later (or_right (is_at (nat_cmp c) x) (is_in xs c) e h))
 
-in_front : (xs ys : List ℕ) (c : ℕ) → is_in xs c ≡ true → is_in (xs ++ ys) c ≡ true
+pub in_front : (xs ys : List ℕ) (c : ℕ) → is_in xs c ≡ true → is_in (xs ++ ys) c ≡ true
 in_front [] ys c h = cc
 in_front (x ∷ xs) ys c h = front_at x xs ys c (is_at (nat_cmp c) x) refl (in_front xs ys c) h
 
-in_end : (xs ys : List ℕ) (c : ℕ) → is_in ys c ≡ true → is_in (xs ++ ys) c ≡ true
+pub in_end : (xs ys : List ℕ) (c : ℕ) → is_in ys c ≡ true → is_in (xs ++ ys) c ≡ true
 in_end [] ys c h = h
 in_end (x ∷ xs) ys c h = or_second (is_at (nat_cmp c) x) (is_in (xs ++ ys) c) (in_end xs ys c h)
 
@@ -151,7 +151,7 @@ pub covers_wakes : (a0 a1 : ℕ → Bool) (l : ℕ → Option Line) (s0 s1 : ℕ
 covers_wakes a0 a1 l s0 s1 cov wakes c h = covers_wakes_at (a0 c) (a1 c) (a1 c) (l c) (s0 c) (s1 c) refl (wakes c).0 (wakes c).1 (cov c) h
 
 -- ---- the end of a turn
-or_cases : (b x : Bool) → (b || x) ≡ true → (b ≡ true) ⊎ (x ≡ true)
+pub or_cases : (b x : Bool) → (b || x) ≡ true → (b ≡ true) ⊎ (x ≡ true)
 or_cases true x h = inl refl
 or_cases false x h = inr h
 
@@ -175,7 +175,7 @@ covers_kept a n ns l s cov c h = elim (cov c h) [
   ]
 ]
 
-key_conn : (n c : ℕ) → is_at (nat_cmp c) n ≡ true → n ≡ c
+pub key_conn : (n c : ℕ) → is_at (nat_cmp c) n ≡ true → n ≡ c
 key_conn n c e = grind (arith, nat_tests)
 
 -- nothing is to be done at it
@@ -274,7 +274,7 @@ not_settled [] takes w s p e all = open_gate (are_gates_settled takes w.gates) e
 not_settled (n ∷ ns) takes w s p e all = let no : true ≡ false = sym p.0 ∙ all.0 n in cc
 
 -- ---- the order of visits
-in_split : (xs ys : List ℕ) (c : ℕ) → is_in (xs ++ ys) c ≡ true → (is_in xs c ≡ true) ⊎ (is_in ys c ≡ true)
+pub in_split : (xs ys : List ℕ) (c : ℕ) → is_in (xs ++ ys) c ≡ true → (is_in xs c ≡ true) ⊎ (is_in ys c ≡ true)
 in_split [] ys c h = inr h
 in_split (x ∷ xs) ys c h = elim (or_cases (is_at (nat_cmp c) x) (is_in (xs ++ ys) c) h) [
   | inl e ↦ inl (or_first (is_at (nat_cmp c) x) (is_in xs c) e)

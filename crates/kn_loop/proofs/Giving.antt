@@ -1,17 +1,15 @@
 -- Which connections are given and at hand.
-use Rattle.std.proofs.Common.{◌≡◌, ℕ, ◌==◌, ◌+◌, ◌-◌, ◌⊎◌, inl, inr, Bool, true, false, List, [], ◌∷◌, ◌++◌, ◌<◌, ◌≤◌, None, Some, sym, refl, ap, ◌∙◌, subst, cond, eqb, arith}
+use Rattle.std.proofs.Common.{◌≡◌, ℕ, ◌==◌, ◌+◌, ◌-◌, Bool, true, false, List, [], ◌∷◌, ◌++◌, ◌<◌, ◌≤◌, None, Some, sym, refl, ap, ◌∙◌, subst, arith}
 use Rattle.std.specs.Prelude.{Option, is_some, if◌then◌else◌}
 use Rattle.std.specs.Option.{option_map}
 use Rattle.kn_port.specs.declared.names.Gate.{Gate}
 use Rattle.kn_port.specs.declared.names.Ready.{Ready}
 use Rattle.kn_port.specs.declared.names.Ready.TheVariants as ready
-use Rattle.kn_port.specs.declared.names.Accepted.{Accepted}
 use Rattle.kn_port.specs.declared.names.Accepted.TheVariants as accepted
-use Rattle.kn_port.specs.declared.names.Dialled.{Dialled}
 use Rattle.kn_port.specs.declared.names.Dialled.TheVariants as dialled
 use Rattle.kn_port.specs.declared.entry.Entry.{Entry}
 use Rattle.kn_port.specs.declared.entry.Entry.TheVariants as entry
-use Rattle.kn_port.specs.Journal.{Tells, TellsShut, is_open, open_from, open_after, shut_entries}
+use Rattle.kn_port.specs.Journal.{Tells, TellsShut, is_open, open_from, open_after}
 use Rattle.kn_loop.specs.declared.line.Line.{Line}
 use Rattle.kn_loop.specs.declared.watch.Watch.{Watch}
 use Rattle.kn_loop.specs.Kept.{line_of}
@@ -204,4 +202,4 @@ pub hand_turned : {N : Type 0} (did : N → Call → N → Type 0) (outgoing : N
     (t0 t1 : Option (List Entry)) (w0 w1 : Watch) (n0 n1 : N) (waits : Waited) → Turned did outgoing said top to_dial takes t0 t1 w0 w1 n0 n1 waits
     → AtHand t0 (line_of w0.lines) → AtHand t1 (line_of w1.lines)
 hand_turned did outgoing said top to_dial takes t0 t1 w0 w1 n0 n1 waits (WaitedOnce names answer settled told follows same) h = hand_after t0 t1 (entry.Wait names answer ∷ []) (line_of w0.lines) (line_of w1.lines) told follows.lines h
-hand_turned did outgoing said top to_dial takes t0 t1 w0 w1 n0 n1 waits (Acted open_work made dialled none) h = hand_after t0 t1 made.entries (line_of w0.lines) (line_of w1.lines) made.told made.follows.lines h
+hand_turned did outgoing said top to_dial takes t0 t1 w0 w1 n0 n1 waits (Acted open_work made visits asks dialled none) h = hand_after t0 t1 made.entries (line_of w0.lines) (line_of w1.lines) made.told made.follows.lines h

@@ -3,3 +3,4 @@ pub mod Giving
 pub mod Making
 pub mod Numbers
 pub mod Starting
+pub mod Visiting

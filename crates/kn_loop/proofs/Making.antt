@@ -1,5 +1,5 @@
 -- Parts of a turn, one after the other.
-use Rattle.std.proofs.Common.{◌≡◌, ℕ, ◌==◌, ◌+◌, ◌-◌, Bool, true, false, ◌||◌, List, [], ◌∷◌, ◌++◌, None, Some, sym, refl, ap, ◌∙◌, subst, append_assoc, append-nil}
+use Rattle.std.proofs.Common.{◌≡◌, ℕ, ◌==◌, Bool, true, false, ◌||◌, List, [], ◌∷◌, ◌++◌, None, Some, sym, refl, ap, ◌∙◌, subst, append_assoc, append-nil}
 use Rattle.std.specs.Prelude.{Option}
 use Rattle.std.proofs.Math.Path.{fun_ext}
 use Rattle.kn_port.specs.declared.names.Dialled.{Dialled}
@@ -75,6 +75,10 @@ follows_then es fs w0 w1 w2 p q = record {
   course = q.course ∙ p.course;
 }
 
+pub known_then : (es fs : List Entry) (k : Known) → known_from (es ++ fs) k ≡ known_from fs (known_from es k)
+known_then [] fs k = refl
+known_then (e ∷ es) fs k = known_then es fs (known_after e k)
+
 -- what is known after some entries, by its parts
 known_parts : (es : List Entry) (k : Known) → known_from es k ≡ record { lines = λ c. lines_from es c (k.lines c); held = held_from es k.held; gates = gates_from es k.gates; drain = drain_from es k.drain }
 known_parts [] k = refl
@@ -92,9 +96,14 @@ follows_known es w0 w1 p = same_known (line_of w1.lines) (λ c. lines_from es c 
     ∙ sym (known_parts es (known_of w0))
 
 module _ {N : Type 0} (did : N → Call → N → Type 0) (outgoing : N → ℕ → List ℕ) (said : N → ℕ → Answers) (top : N → ℕ) where
-  ran_then : (es fs : List Entry) (k : Known) (a b c : N) → Ran did outgoing said top k a es b → Ran did outgoing said top (known_from es k) b fs c → Ran did outgoing said top k a (es ++ fs) c
+  pub ran_then : (es fs : List Entry) (k : Known) (a b c : N) → Ran did outgoing said top k a es b → Ran did outgoing said top (known_from es k) b fs c → Ran did outgoing said top k a (es ++ fs) c
   ran_then [] fs k a b c r s = subst (λ x. Ran did outgoing said top k x fs c) r s
   ran_then (e ∷ es) fs k a b c r s = (r.0, r.1, ran_then es fs (known_after e k) r.0 b c r.2 s)
+
+  -- the calls of what was made next, where what is known is told from the first
+  pub ran_next : (t0 t1 t2 : Option (List Entry)) (w0 w1 w2 : Watch) (n0 n1 n2 : N) (p : Made did outgoing said top t0 t1 w0 w1 n0 n1) (q : Made did outgoing said top t1 t2 w1 w2 n1 n2)
+      → Ran did outgoing said top (known_from p.entries (known_of w0)) n1 q.entries n2
+  ran_next t0 t1 t2 w0 w1 w2 n0 n1 n2 p q = subst (λ k. Ran did outgoing said top k n1 q.entries n2) (follows_known p.entries w0 w1 p.follows) q.ran
 
   pub nothing_made : (told : Option (List Entry)) (w : Watch) (node : N) → Made did outgoing said top told told w w node node
   nothing_made told w node = record { entries = []; told = tells_nothing told; follows = follows_nothing w; ran = refl; no_wait = refl }
@@ -108,6 +117,11 @@ module _ {N : Type 0} (did : N → Call → N → Type 0) (outgoing : N → ℕ 
     ran = ran_then p.entries q.entries (known_of w0) n0 n1 n2 p.ran (subst (λ k. Ran did outgoing said top k n1 q.entries n2) (follows_known p.entries w0 w1 p.follows) q.ran);
     no_wait = no_wait_then p.entries q.entries p.no_wait q.no_wait;
   }
+
+  pub then_entries : (t0 t1 t2 : Option (List Entry)) (w0 w1 w2 : Watch) (n0 n1 n2 : N) (p : Made did outgoing said top t0 t1 w0 w1 n0 n1) (q : Made did outgoing said top t1 t2 w1 w2 n1 n2)
+      → (made_then t0 t1 t2 w0 w1 w2 n0 n1 n2 p q).entries ≡ p.entries ++ q.entries
+  unfolding made_then
+  then_entries t0 t1 t2 w0 w1 w2 n0 n1 n2 p q = refl
 
   dial_made_at : (t : ℕ) (a : List ℕ) (t0 t1 : Option (List Entry)) (w0 w1 : Watch) (n0 mid n1 : N) (answer : Dialled) → did n0 (DialTaken t a) mid
       → Tells t0 t1 (dial_entries a answer) → Follows (dial_entries a answer) w0 w1 → TicketDid did outgoing (w0.drain == 1) mid t answer n1 → Made did outgoing said top t0 t1 w0 w1 n0 n1

@@ -5,4 +5,5 @@ pub mod Kept
 pub mod Known
 pub mod Ran
 pub mod Turns
+pub mod Visited
 pub mod Watch

@@ -1,5 +1,5 @@
 -- When a turn waits and when it ends, and who is awake: what the parts of a turn keep between them.
-use Rattle.std.specs.Prelude.{◌≡◌, ℕ, ◌<◌, ◌≤◌, ◌==◌, nat_lt, nat_le, ◌⊎◌, Bool, true, false, not, ◌||◌, ◌&&◌, List, [], ◌∷◌, ◌++◌, length, take, min, ◌+◌, ⊤, Option, None, Some, is_some, if◌then◌else◌}
+use Rattle.std.specs.Prelude.{◌≡◌, ℕ, ◌<◌, ◌≤◌, ◌==◌, nat_lt, nat_le, ◌⊎◌, Bool, true, false, not, ◌&&◌, List, [], ◌∷◌, take, min, ◌+◌, ⊤, Option, None, Some, is_some, if◌then◌else◌}
 use Rattle.std.specs.List.{list_any}
 use Rattle.kn_port.specs.declared.names.Gate.{Gate}
 use Rattle.kn_port.specs.declared.names.Ready.{Ready}
@@ -20,11 +20,11 @@ use Rattle.kn_loop.specs.declared.turn.Turn.{Turn}
 use Rattle.kn_loop.specs.declared.turn.Turn.TheVariants as turn
 pub use Rattle.kn_loop.specs.Doing.{is_busy, is_due, is_active}
 use Rattle.kn_loop.specs.Kept.{line_of, is_in}
-use Rattle.kn_loop.specs.Watch.{line_is_settled}
 use Rattle.kn_loop.specs.Gates.{are_gates_settled}
 use Rattle.kn_loop.specs.Calls.{Answers, Call}
-use Rattle.kn_loop.specs.Known.{Given, Follows}
+use Rattle.kn_loop.specs.Known.{Given, Follows, known_of}
 use Rattle.kn_loop.specs.Ran.{Made}
+use Rattle.kn_loop.specs.Visited.{VisitsAll, AsksGates}
 
 -- nothing is to be done but to wait
 abbrev pub AllSettled : (Gate → Bool) → Watch → (ℕ → Answers) → Type 0
@@ -114,14 +114,16 @@ is_bound course = nat_lt 0 course.turns && (course.turn == course.turns)
 abbrev pub answer_of : Bool → Bool → Bool → Turn
 answer_of done lost bound = if done then turn.Done else if lost then turn.ServerLost else if bound then turn.Bound else turn.More
 
--- A turn after the first: it waited, and all was settled; or not all was, and it did not wait, and left nothing to
--- dial and nothing to shut.
+-- A turn after the first: it waited, and all was settled; or not all was, and it did not wait, visited each connection
+-- at which something was to be done, asked each gate that might have something to give, and left nothing to dial and
+-- nothing to shut.
 pub data Turned {N : Type 0} (did : N → Call → N → Type 0) (outgoing : N → ℕ → List ℕ) (said : N → ℕ → Answers) (top : N → ℕ) (to_dial : N → List (ℕ × List ℕ)) (takes : Gate → Bool)
     (told0 told1 : Option (List Entry)) (w0 w1 : Watch) (node0 node1 : N) : Waited → Type 0 where
   WaitedOnce : (names : List Ready) (answer : Waited) → AllSettled takes w0 (said node0)
       → Tells told0 told1 (entry.Wait names answer ∷ []) → Follows (entry.Wait names answer ∷ []) w0 w1 → node1 ≡ node0
       → Turned did outgoing said top to_dial takes told0 told1 w0 w1 node0 node1 answer
-  Acted : (AllSettled takes w0 (said node0) → ⊥) → Made did outgoing said top told0 told1 w0 w1 node0 node1
+  Acted : (AllSettled takes w0 (said node0) → ⊥) → (made : Made did outgoing said top told0 told1 w0 w1 node0 node1)
+      → VisitsAll did outgoing said top (known_of w0) node0 node1 made.entries → AsksGates takes w0.gates made.entries
       → to_dial node1 ≡ [] → NoneDue (line_of w1.lines) (said node1)
       → Turned did outgoing said top to_dial takes told0 told1 w0 w1 node0 node1 waited.Ready
 

@@ -5,6 +5,7 @@ ghost use Rattle.kn_loop.specs.Gates.{is_unsettled, gate_of};
 ghost use Rattle.kn_loop.specs.Known.{Given, Begins};
 ghost use Rattle.kn_loop.specs.Ran.{Made, connection_limit};
 ghost use Rattle.kn_loop.specs.Turns.{Covers};
+ghost use Rattle.kn_loop.specs.Visited.{MadeWith, AsksGate, AsksGates, has_accept};
 
 use crate::Node;
 use crate::running::{CONNECTION_LIMIT, Running};
@@ -40,6 +41,7 @@ impl<N: Node + Drop> Running<N> {
         ensures covers { OnOk result (Covers (is_in self.new.awake) (line_of self.new.watch.lines) (N.answers self.new.node)) }
         ensures given { OnOk result (Given self.new.watch (N.top self.new.node) (P.last port.new)) }
         ensures faults { P.faults port.old ≤ P.faults port.new }
+        ensures asked { OnOk result (MadeWith N.did N.outgoing N.answers N.top (λ es. has_accept es gate ≡ true) (P.told port.old) (P.told port.new) self.old.watch self.new.watch self.old.node self.new.node) }
     {
         let answer = port.accept(gate);
         self.watch.gates.note_accepted(gate, answer);
@@ -64,6 +66,7 @@ impl<N: Node + Drop> Running<N> {
         ensures covers { OnOk result (Covers (is_in self.new.awake) (line_of self.new.watch.lines) (N.answers self.new.node)) }
         ensures given { OnOk result (Given self.new.watch (N.top self.new.node) (P.last port.new)) }
         ensures faults { P.faults port.old ≤ P.faults port.new }
+        ensures asked { OnOk result (MadeWith N.did N.outgoing N.answers N.top (λ es. has_accept es gate ≡ true) (P.told port.old) (P.told port.new) self.old.watch self.new.watch self.old.node self.new.node) }
     {
         let answer = port.accept(gate);
         self.watch.gates.note_accepted(gate, answer);
@@ -87,6 +90,7 @@ impl<N: Node + Drop> Running<N> {
         ensures covers { OnOk result (Covers (is_in self.new.awake) (line_of self.new.watch.lines) (N.answers self.new.node)) }
         ensures given { OnOk result (Given self.new.watch (N.top self.new.node) (P.last port.new)) }
         ensures faults { P.faults port.old ≤ P.faults port.new }
+        ensures asked { OnOk result (MadeWith N.did N.outgoing N.answers N.top (λ es. has_accept es gate ≡ true) (P.told port.old) (P.told port.new) self.old.watch self.new.watch self.old.node self.new.node) }
     {
         if self.watch.held < CONNECTION_LIMIT {
             self.accept_free(port, gate)
@@ -104,6 +108,7 @@ impl<N: Node + Drop> Running<N> {
         ensures covers { OnOk result (Covers (is_in self.new.awake) (line_of self.new.watch.lines) (N.answers self.new.node)) }
         ensures given { OnOk result (Given self.new.watch (N.top self.new.node) (P.last port.new)) }
         ensures faults { P.faults port.old ≤ P.faults port.new }
+        ensures asked { OnOk result (MadeWith N.did N.outgoing N.answers N.top (AsksGate N.takes_of self.old.watch.gates gate) (P.told port.old) (P.told port.new) self.old.watch self.new.watch self.old.node self.new.node) }
     {
         if self.node.takes(gate) && self.watch.gates.at(gate).is_unsettled() {
             return self.accept_once(port, gate);
@@ -119,6 +124,7 @@ impl<N: Node + Drop> Running<N> {
         ensures covers { OnOk result (Covers (is_in self.new.awake) (line_of self.new.watch.lines) (N.answers self.new.node)) }
         ensures given { OnOk result (Given self.new.watch (N.top self.new.node) (P.last port.new)) }
         ensures faults { P.faults port.old ≤ P.faults port.new }
+        ensures asked { OnOk result (MadeWith N.did N.outgoing N.answers N.top (AsksGates N.takes_of self.old.watch.gates) (P.told port.old) (P.told port.new) self.old.watch self.new.watch self.old.node self.new.node) }
     {
         self.accept_if_due(port, Gate::Agents)?;
         self.accept_if_due(port, Gate::Clients)?;

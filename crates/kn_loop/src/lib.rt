@@ -12,6 +12,8 @@ mod lines;
 mod node;
 mod running;
 mod sweeping;
+#[cfg(test)]
+mod tests;
 mod turn;
 mod turning;
 mod visits;

@@ -1,9 +1,10 @@
 ghost use Rattle.std.specs.Prelude.{ℕ, true, false, ◌≡◌, ◌≤◌, ◌==◌, [], ◌++◌, length, take, drop, not, ◌&&◌, OnOk, IfOk, MatchResult};
 ghost use Rattle.kn_loop.specs.Kept.{is_in, line_of};
 ghost use Rattle.kn_loop.specs.Gates.{is_unsettled, gate_of, are_gates_settled, gate_named, gates_named};
-ghost use Rattle.kn_loop.specs.Known.{Given, Names};
+ghost use Rattle.kn_loop.specs.Known.{Given, Names, known_of};
 ghost use Rattle.kn_loop.specs.Ran.{Made};
 ghost use Rattle.kn_loop.specs.Turns.{is_busy, AllSettled, WakesLines, Rests, Steady, Turned, IsTurn, TurnCounts, counted};
+ghost use Rattle.kn_loop.specs.Visited.{MadeWith, VisitsAll, AsksGates};
 ghost use Rattle.kn_loop.specs.Watch.{named_from, named_one};
 ghost use Rattle.kn_loop.specs.declared.turn.Turn.TheVariants as turn_is;
 ghost use Rattle.kn_port.specs.Answers.{WaitCounts};
@@ -104,6 +105,7 @@ impl<N: Node + Drop> Running<N> {
         ensures asleep { OnOk result (self.new.awake ≡ []) }
         ensures given { OnOk result (Given self.new.watch (N.top self.new.node) (P.last port.new)) }
         ensures faults { P.faults port.old ≤ P.faults port.new }
+        ensures served { OnOk result (MadeWith N.did N.outgoing N.answers N.top (λ es. VisitsAll N.did N.outgoing N.answers N.top (known_of self.old.watch) self.old.node self.new.node es × AsksGates N.takes_of self.old.watch.gates es) (P.told port.old) (P.told port.new) self.old.watch self.new.watch self.old.node self.new.node) }
     {
         let mut batch = self.take_batch();
         self.visit_all(port, batch.as_slice())?;

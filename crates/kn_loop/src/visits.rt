@@ -2,9 +2,12 @@ ghost use Rattle.std.specs.Prelude.{ℕ, Bool, true, false, ◌≡◌, ◌<◌, 
 ghost use Rattle.kn_loop.specs.Calls.{Wakes};
 ghost use Rattle.kn_loop.specs.Doing.{may_ask, may_read, may_write};
 ghost use Rattle.kn_loop.specs.Kept.{is_in, line_of};
+ghost use Rattle.kn_loop.specs.Known.{known_of};
 ghost use Rattle.kn_loop.specs.Ran.{Made, ReadDid, WroteDid, DialEndDid, leads_to_server};
-ghost use Rattle.kn_loop.specs.Turns.{Touches, SameConns, Visits, Covers, CoversBut, AreAllGiven, take_got, take_took};
+ghost use Rattle.kn_loop.specs.Turns.{is_busy, Touches, SameConns, Visits, Covers, CoversBut, AreAllGiven, take_got, take_took};
+ghost use Rattle.kn_loop.specs.Visited.{MadeWith, VisitsOf, has_visit};
 ghost use Rattle.kn_port.specs.Answers.{GotFits, TookFits};
+ghost use Rattle.kn_port.specs.Journal.{read_entries, write_entries, dial_end_entries};
 
 use crate::Node;
 use crate::running::Running;
@@ -22,6 +25,7 @@ impl<N: Node + Drop> Running<N> {
         ensures wakes { OnOk result (Wakes (is_in self.old.awake) (is_in self.new.awake) (N.answers self.old.node) (N.answers self.new.node)) }
         ensures top { OnOk result (N.top self.new.node ≡ N.top self.old.node) }
         ensures watch { self.new.watch ≡ self.old.watch }
+        ensures visit { OnOk result (has_visit (read_entries conn self.old.room.items got) conn ≡ true) }
     {
         match got {
             PortGot::Bytes(count) => {
@@ -48,6 +52,7 @@ impl<N: Node + Drop> Running<N> {
         ensures top { OnOk result (N.top self.new.node ≡ N.top self.old.node) }
         ensures faults { P.faults port.old ≤ P.faults port.new }
         ensures last { P.last port.new ≡ P.last port.old }
+        ensures visited { OnOk result (MadeWith N.did N.outgoing N.answers N.top (λ es. has_visit es conn ≡ true) (P.told port.old) (P.told port.new) self.old.watch self.new.watch self.old.node self.new.node) }
     {
         let got = port.read(conn, &mut self.room);
         self.watch.lines.note_read(conn, got)?;
@@ -62,6 +67,7 @@ impl<N: Node + Drop> Running<N> {
         ensures wakes { OnOk result (Wakes (is_in self.old.awake) (is_in self.new.awake) (N.answers self.old.node) (N.answers self.new.node)) }
         ensures top { OnOk result (N.top self.new.node ≡ N.top self.old.node) }
         ensures watch { self.new.watch ≡ self.old.watch }
+        ensures visit { OnOk result (has_visit (write_entries conn (N.outgoing self.old.node conn) took) conn ≡ true) }
     {
         match took {
             Took::Bytes(count) => self.node.took(&mut self.awake, conn, count),
@@ -84,6 +90,7 @@ impl<N: Node + Drop> Running<N> {
         ensures top { OnOk result (N.top self.new.node ≡ N.top self.old.node) }
         ensures faults { P.faults port.old ≤ P.faults port.new }
         ensures last { P.last port.new ≡ P.last port.old }
+        ensures visited { OnOk result (MadeWith N.did N.outgoing N.answers N.top (λ es. has_visit es conn ≡ true) (P.told port.old) (P.told port.new) self.old.watch self.new.watch self.old.node self.new.node) }
     {
         let took = port.write(conn, self.node.out(conn));
         self.watch.lines.note_write(conn, took)?;
@@ -97,6 +104,7 @@ impl<N: Node + Drop> Running<N> {
         ensures wakes { OnOk result (Wakes (is_in self.old.awake) (is_in self.new.awake) (N.answers self.old.node) (N.answers self.new.node)) }
         ensures top { OnOk result (N.top self.new.node ≡ N.top self.old.node) }
         ensures watch { self.new.watch ≡ self.old.watch }
+        ensures visit { OnOk result (has_visit (dial_end_entries conn end) conn ≡ true) }
     {
         match end {
             DialEnd::Up => Ok(()),
@@ -113,6 +121,7 @@ impl<N: Node + Drop> Running<N> {
         ensures wakes { OnOk result (Wakes (is_in self.old.awake) (is_in self.new.awake) (N.answers self.old.node) (N.answers self.new.node)) }
         ensures top { OnOk result (N.top self.new.node ≡ N.top self.old.node) }
         ensures watch { self.new.watch ≡ self.old.watch }
+        ensures visit { OnOk result (has_visit (dial_end_entries conn end) conn ≡ true) }
     {
         match end {
             DialEnd::Up => self.node.dialled(&mut self.awake, conn, true),
@@ -128,6 +137,7 @@ impl<N: Node + Drop> Running<N> {
         ensures wakes { OnOk result (Wakes (is_in self.old.awake) (is_in self.new.awake) (N.answers self.old.node) (N.answers self.new.node)) }
         ensures top { OnOk result (N.top self.new.node ≡ N.top self.old.node) }
         ensures watch { self.new.watch ≡ self.old.watch }
+        ensures visit { OnOk result (has_visit (dial_end_entries conn end) conn ≡ true) }
     {
         if is_server {
             self.tell_server_dial(conn, end)
@@ -148,6 +158,7 @@ impl<N: Node + Drop> Running<N> {
         ensures top { OnOk result (N.top self.new.node ≡ N.top self.old.node) }
         ensures faults { P.faults port.old ≤ P.faults port.new }
         ensures last { P.last port.new ≡ P.last port.old }
+        ensures visited { OnOk result (MadeWith N.did N.outgoing N.answers N.top (λ es. has_visit es conn ≡ true) (P.told port.old) (P.told port.new) self.old.watch self.new.watch self.old.node self.new.node) }
     {
         let end = port.dial_end(conn);
         let is_server = self.watch.lines.leads_to_server(conn);
@@ -194,6 +205,8 @@ impl<N: Node + Drop> Running<N> {
         ensures top { OnOk result (N.top self.new.node ≡ N.top self.old.node) }
         ensures faults { P.faults port.old ≤ P.faults port.new }
         ensures last { P.last port.new ≡ P.last port.old }
+        ensures visited { OnOk result (MadeWith N.did N.outgoing N.answers N.top (λ es. (may_read (line_of self.old.watch.lines conn) && (N.answers self.old.node conn).wants) ≡ true → has_visit es conn ≡ true) (P.told port.old) (P.told port.new) self.old.watch self.new.watch self.old.node self.new.node) }
+        ensures idle { OnOk result ((may_read (line_of self.old.watch.lines conn) && (N.answers self.old.node conn).wants) ≡ false → (self.new.watch ≡ self.old.watch) × (self.new.node ≡ self.old.node)) }
     {
         if self.may_read(conn) {
             return self.read_once(port, conn);
@@ -212,6 +225,7 @@ impl<N: Node + Drop> Running<N> {
         ensures top { OnOk result (N.top self.new.node ≡ N.top self.old.node) }
         ensures faults { P.faults port.old ≤ P.faults port.new }
         ensures last { P.last port.new ≡ P.last port.old }
+        ensures visited { OnOk result (MadeWith N.did N.outgoing N.answers N.top (λ es. (may_write (line_of self.old.watch.lines conn) && (N.answers self.old.node conn).has_out) ≡ true → has_visit es conn ≡ true) (P.told port.old) (P.told port.new) self.old.watch self.new.watch self.old.node self.new.node) }
     {
         if self.may_write(conn) {
             return self.write_once(port, conn);
@@ -230,6 +244,7 @@ impl<N: Node + Drop> Running<N> {
         ensures top { OnOk result (N.top self.new.node ≡ N.top self.old.node) }
         ensures faults { P.faults port.old ≤ P.faults port.new }
         ensures last { P.last port.new ≡ P.last port.old }
+        ensures visited { OnOk result (MadeWith N.did N.outgoing N.answers N.top (λ es. may_ask (line_of self.old.watch.lines conn) ≡ false → is_busy (line_of self.old.watch.lines conn) (N.answers self.old.node conn) ≡ true → has_visit es conn ≡ true) (P.told port.old) (P.told port.new) self.old.watch self.new.watch self.old.node self.new.node) }
     {
         self.read_if_due(port, conn)?;
         self.write_if_due(port, conn)?;
@@ -247,6 +262,7 @@ impl<N: Node + Drop> Running<N> {
         ensures top { OnOk result (N.top self.new.node ≡ N.top self.old.node) }
         ensures faults { P.faults port.old ≤ P.faults port.new }
         ensures last { P.last port.new ≡ P.last port.old }
+        ensures visited { OnOk result (MadeWith N.did N.outgoing N.answers N.top (λ es. is_busy (line_of self.old.watch.lines conn) (N.answers self.old.node conn) ≡ true → has_visit es conn ≡ true) (P.told port.old) (P.told port.new) self.old.watch self.new.watch self.old.node self.new.node) }
     {
         if self.may_ask(conn) {
             self.ask_once(port, conn)
@@ -266,6 +282,7 @@ impl<N: Node + Drop> Running<N> {
         ensures top { OnOk result (N.top self.new.node ≡ N.top self.old.node) }
         ensures faults { P.faults port.old ≤ P.faults port.new }
         ensures last { P.last port.new ≡ P.last port.old }
+        ensures visited { OnOk result (MadeWith N.did N.outgoing N.answers N.top (λ es. is_busy (line_of self.old.watch.lines conn) (N.answers self.old.node conn) ≡ true → has_visit es conn ≡ true) (P.told port.old) (P.told port.new) self.old.watch self.new.watch self.old.node self.new.node) }
     {
         self.serve(port, conn)?;
         self.stay_awake(conn)?;
@@ -284,6 +301,7 @@ impl<N: Node + Drop> Running<N> {
         ensures top { OnOk result (N.top self.new.node ≡ N.top self.old.node) }
         ensures faults { P.faults port.old ≤ P.faults port.new }
         ensures last { P.last port.new ≡ P.last port.old }
+        ensures visited { OnOk result (MadeWith N.did N.outgoing N.answers N.top (VisitsOf N.did N.outgoing N.answers N.top (is_in batch.now) (known_of self.old.watch) self.old.node self.new.node) (P.told port.old) (P.told port.new) self.old.watch self.new.watch self.old.node self.new.node) }
     {
         let mut rest = batch;
         while let Some((first, after)) = rest.split_first() {

@@ -1,10 +1,12 @@
-use Rattle.std.proofs.Common.{◌≡◌, inr, ◌∷◌, ◌++◌, ◌≤◌, ◌<◌, ◌+◌, ◌-◌, ℕ, List, [], true, false, rules, refl, sym, ap, ◌∙◌, subst, arith, length, take, drop}
-use Rattle.kn_loop.specs.Kept.{is_in, line_of}
+use Rattle.std.proofs.Common.{◌≡◌, inr, ◌∷◌, ◌≤◌, ◌<◌, ◌+◌, [], false, rules, refl, sym, ap, ◌∙◌, subst, arith}
 use Rattle.kn_port.specs.declared.names.Accepted.TheVariants as accepted
 use Rattle.kn_port.specs.declared.entry.Entry.TheVariants as entry
 use Rattle.kn_loop.specs.Gates.{gate_accepted}
 use Rattle.kn_loop.specs.Ran.{OpenedDid}
 use Rattle.kn_loop.proofs.Giving.{refuse_tells, refused_lines}
+use Rattle.kn_loop.specs.Visited.{is_gate}
+use Rattle.kn_loop.proofs.Covering.{or_first}
+use Rattle.kn_loop.proofs.Visiting.{one_asked, own_gate}
 use Rattle.kn_loop.proofs.running.Running.accept_full.Goals as goal
 
 pub returns-in-Conn-clause-made : goal.returns-in-Conn-clause-made
@@ -29,3 +31,15 @@ returns-in-Conn-clause-made g c =
       );
       no_wait = refl;
     }
+
+pub returns-in-Conn-clause-asked : goal.returns-in-Conn-clause-asked
+unfolding returns-in-Conn-clause-made
+returns-in-Conn-clause-asked g c = record { made = returns-in-Conn-clause-made g c; holds = or_first (is_gate c.args.gate c.args.gate) false (own_gate c.args.gate) }
+
+pub returns-in-NotYet-clause-asked : goal.returns-in-NotYet-clause-asked
+returns-in-NotYet-clause-asked g c = one_asked g.N.Node.did g.N.Node.outgoing g.N.Node.answers g.N.Node.top c.args.gate accepted.NotYet _ _ _ _ _ _ c.in-NotYet.ensures.told
+    (record { lines = λ k. refl; held = refl; gates = c.note_accepted.ensures ∙ ap (λ a. gate_accepted c.args.gate a c.args.self.now.watch.gates) c.in-NotYet.is; drain = refl; course = refl }) c.requires.due refl
+
+pub returns-in-Failed-clause-asked : goal.returns-in-Failed-clause-asked
+returns-in-Failed-clause-asked g c = one_asked g.N.Node.did g.N.Node.outgoing g.N.Node.answers g.N.Node.top c.args.gate accepted.Failed _ _ _ _ _ _ c.in-Failed.ensures.told
+    (record { lines = λ k. refl; held = refl; gates = c.note_accepted.ensures ∙ ap (λ a. gate_accepted c.args.gate a c.args.self.now.watch.gates) c.in-Failed.is; drain = refl; course = refl }) c.requires.due refl

@@ -1,10 +1,11 @@
-use Rattle.std.proofs.Common.{◌≡◌, ◌∷◌, ◌++◌, ◌≤◌, ◌<◌, ◌+◌, ◌-◌, ℕ, List, [], true, false, None, Some, rules, refl, sym, ap, ◌∙◌, subst, arith, length, take, drop}
+use Rattle.std.proofs.Common.{sym, ◌∙◌, subst, take, drop}
 use Rattle.kn_loop.specs.Kept.{is_in, line_of}
 use Rattle.kn_loop.specs.Ran.{Made}
 use Rattle.kn_loop.specs.Turns.{Covers, AreAllGiven}
 use Rattle.kn_loop.proofs.Making.{made_then, made_from}
 use Rattle.kn_loop.proofs.Covering.{covers_turned, given_turned, joined}
 use Rattle.kn_loop.proofs.Giving.{all_given, given_same, hand_after}
+use Rattle.kn_loop.proofs.Visiting.{served}
 use Rattle.kn_loop.proofs.running.Running.act.Goals as goal
 
 pub visit_all-requires-clause-covers : goal.visit_all-requires-clause-covers
@@ -40,3 +41,9 @@ returns-clause-made g c = made_then g.N.Node.did g.N.Node.outgoing g.N.Node.answ
     (made_from g.N.Node.did g.N.Node.outgoing g.N.Node.answers g.N.Node.top _ _ _ _ _ _ _ _ c.take_batch-batch.ensures.watch c.take_batch-batch.ensures.node c.in_ok-visit_all.ensures.made) c.in_ok-accept_all.ensures.made)
     c.in_ok-dial_all.ensures.made)
     c.in_ok-sweep.ensures.made
+
+pub returns-clause-served : goal.returns-clause-served
+returns-clause-served g c = served g.N.Node.did g.N.Node.outgoing g.N.Node.answers g.N.Node.top g.N.Node.takes_of c.take_batch-batch.ensures.order.0 c.args.self.now.busy.items c.as_slice.result.now _ _ _ _ _ _ _ _ _ _ _ _ _ _
+    c.take_batch-batch.ensures.watch c.take_batch-batch.ensures.node (c.as_slice.ensures.value ∙ c.take_batch-batch.ensures.order.1) c.requires.steady.rests.covers
+    c.in_ok-visit_all.ensures.visited c.in_ok-accept_all.ensures.asked
+    (made_then g.N.Node.did g.N.Node.outgoing g.N.Node.answers g.N.Node.top _ _ _ _ _ _ _ _ _ c.in_ok-dial_all.ensures.made c.in_ok-sweep.ensures.made)

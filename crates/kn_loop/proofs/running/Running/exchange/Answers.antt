@@ -1,7 +1,7 @@
-use Rattle.std.proofs.Common.{◌≡◌, ◌∷◌, ◌++◌, ◌≤◌, ◌<◌, ◌+◌, ℕ, List, [], true, false, rules, refl, sym, ap, ◌∙◌, subst, arith, length, take, drop}
 use Rattle.kn_loop.specs.Kept.{is_in, line_of}
 use Rattle.kn_loop.proofs.Making.{made_then}
 use Rattle.kn_loop.proofs.Covering.{wakes_then, touches_then}
+use Rattle.kn_loop.proofs.Visiting.{exchange_visits}
 use Rattle.kn_loop.proofs.running.Running.exchange.Goals as goal
 
 pub returns-clause-made : goal.returns-clause-made
@@ -12,3 +12,6 @@ returns-clause-wakes g c = wakes_then (is_in c.args.self.now.awake) (is_in c.rea
 
 pub returns-clause-touches : goal.returns-clause-touches
 returns-clause-touches g c = touches_then c.args.conn (line_of c.args.self.now.watch.lines) (line_of c.read_if_due.new.self.watch.lines) (line_of c.write_if_due.new.self.watch.lines) c.in_ok-read_if_due.ensures.touches c.in_ok-write_if_due.ensures.touches
+
+pub returns-clause-visited : goal.returns-clause-visited
+returns-clause-visited g c = exchange_visits g.N.Node.did g.N.Node.outgoing g.N.Node.answers g.N.Node.top c.args.conn _ _ _ _ _ _ _ _ _ c.in_ok-read_if_due.ensures.visited c.in_ok-read_if_due.ensures.idle c.in_ok-write_if_due.ensures.visited

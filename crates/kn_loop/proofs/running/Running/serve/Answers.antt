@@ -1,0 +1,18 @@
+use Rattle.std.proofs.Common.{◌≡◌, true, false, sym, ◌∙◌}
+use Rattle.std.proofs.lemmas.Result.{on_ok_weaker}
+use Rattle.kn_loop.specs.Doing.{is_busy, may_ask}
+use Rattle.kn_loop.specs.Kept.{line_of}
+use Rattle.kn_loop.specs.Visited.{has_visit}
+use Rattle.kn_loop.proofs.Visiting.{with_weaker}
+use Rattle.kn_loop.proofs.running.Running.serve.Goals as goal
+
+pub returns-then-may_ask-clause-visited : goal.returns-then-may_ask-clause-visited
+returns-then-may_ask-clause-visited g c = on_ok_weaker c.ask_once.result
+    (with_weaker g.N.Node.did g.N.Node.outgoing g.N.Node.answers g.N.Node.top (λ es. has_visit es c.args.conn ≡ true) (λ es. is_busy (line_of c.args.self.now.watch.lines c.args.conn) (g.N.Node.answers c.args.self.now.node c.args.conn) ≡ true → has_visit es c.args.conn ≡ true) _ _ _ _ _ _ (λ es h busy. h))
+    c.ask_once.ensures.visited
+
+pub returns-else-may_ask-clause-visited : goal.returns-else-may_ask-clause-visited
+returns-else-may_ask-clause-visited g c = on_ok_weaker c.exchange.result
+    (with_weaker g.N.Node.did g.N.Node.outgoing g.N.Node.answers g.N.Node.top (λ es. may_ask (line_of c.args.self.now.watch.lines c.args.conn) ≡ false → is_busy (line_of c.args.self.now.watch.lines c.args.conn) (g.N.Node.answers c.args.self.now.node c.args.conn) ≡ true → has_visit es c.args.conn ≡ true) (λ es. is_busy (line_of c.args.self.now.watch.lines c.args.conn) (g.N.Node.answers c.args.self.now.node c.args.conn) ≡ true → has_visit es c.args.conn ≡ true) _ _ _ _ _ _
+    (λ es h. h (sym c.may_ask.ensures ∙ c.if-may_ask.false)))
+    c.exchange.ensures.visited
