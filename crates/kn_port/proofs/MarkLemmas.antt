@@ -1,5 +1,5 @@
 -- Marks of the connections at hand, and the journal that gives connections and gives them up.
-use Rattle.std.proofs.Common.{◌≡◌, ℕ, zero, suc, ◌+◌, ◌==◌, ◌≤◌, ◌<◌, Bool, true, false, List, [], ◌∷◌, ◌++◌, length, Option, Some, None, refl, sym, ap, if◌then◌else◌, slice_get, slice_set, arith}
+use Rattle.std.proofs.Common.{◌≡◌, ℕ, zero, suc, ◌+◌, ◌==◌, Bool, true, false, List, [], ◌∷◌, ◌++◌, length, Option, Some, None, refl, ap, if◌then◌else◌, slice_get, slice_set, arith}
 use Rattle.std.proofs.Math.Dec.{eqb-suc-zero, eqb-zero-suc, eqb-suc-suc}
 use Rattle.std.proofs.lemmas.Bool.{eqb-true}
 use Rattle.std.proofs.lemmas.Option.{none-some}
@@ -8,7 +8,7 @@ use Rattle.kn_port.specs.declared.entry.Entry.TheVariants as entry
 use Rattle.kn_port.specs.declared.entry.Entry.{Entry}
 use Rattle.kn_port.specs.Journal.{open_after, open_from, is_open}
 use Rattle.kn_port.specs.Keeping.{open_count, is_marked, unmarked, IsPlain, Opens}
-use Rattle.kn_port.specs.Numbers.{nth, put_nth, changed}
+use Rattle.kn_port.specs.Numbers.{nth, changed}
 
 -- one more entry behind the others
 pub open_behind : (es : List Entry) (e : Entry) (c : ℕ) (b : Bool) → open_from (es ++ e ∷ []) c b ≡ open_after e c (open_from es c b)

@@ -1,4 +1,4 @@
-use Rattle.std.proofs.Common.{rules, arith}
+use Rattle.std.proofs.Common.{rules}
 use Rattle.kn_port.proofs.MarkLemmas.{plain_keeps}
 use Rattle.kn_port.proofs.journal.Journal.add.Goals as goal
 

@@ -1,5 +1,5 @@
-use Rattle.std.proofs.Common.{rules, ◌≡◌, ◌+◌, ◌≤◌, true, false, sym, ◌∙◌, arith}
-use Rattle.kn_port.specs.Keeping.{OneMore, is_marked, open_count, unmarked}
+use Rattle.std.proofs.Common.{◌≡◌, ◌+◌, true, false, sym, ◌∙◌, arith}
+use Rattle.kn_port.specs.Keeping.{is_marked, open_count, unmarked}
 use Rattle.kn_port.specs.Numbers.{nth}
 use Rattle.kn_port.proofs.MarkLemmas.{shut_marks, kept_marks, shut_count, kept_count}
 use Rattle.kn_port.proofs.journal.Journal.shut.Goals as goal
