@@ -8,3 +8,6 @@ mod socket;
 mod trouble;
 
 pub use port::MioPort;
+
+#[cfg(test)]
+mod tests;

@@ -15,3 +15,6 @@ pub use help::{Help, help_of};
 pub use options::{AgentOptions, ClientOptions, Options, ServerOptions};
 pub use program::is_net;
 pub use reading::read_options;
+
+#[cfg(test)]
+mod tests;

@@ -1,0 +1,5 @@
+use Rattle.std.proofs.Common.{◌≡◌}
+use Rattle.kn_mio.proofs.tests.read_three.Given as goal
+
+abbrev pub invariant-loop : goal.invariant-loop
+invariant-loop l = l.port.last ≡ l.fn.port.last
