@@ -30,6 +30,7 @@ impl Model for AgentNode {
 
 impl AgentNode {
     /// An agent whose connection to the server has this number. Its call begins on it.
+    #[tactic(auto, using(crate::proofs::StartLemmas::server_stays))]
     pub fn new(
         alloc: Global,
         server: u64,
@@ -37,7 +38,9 @@ impl AgentNode {
         agent_id: &str,
         identifiers: &str,
     ) -> Result<AgentNode, NoMemory>
-        ensures { IfOk result (λ agent. agent ≡ call.started server authority.now agent_id.now identifiers.now) }
+        ensures started { IfOk result (λ agent. agent ≡ call.started server authority.now agent_id.now identifiers.now) }
+        ensures top { IfOk result (λ agent. agent.top ≡ server) }
+        ensures stays { IfOk result (λ agent. answer.shuts_of agent server ≡ false) }
     {
         let node = started(alloc, server, authority, agent_id, identifiers)?;
         Ok(AgentNode { node })

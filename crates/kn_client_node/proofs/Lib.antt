@@ -1,3 +1,4 @@
 pub mod StepLemmas
 pub mod TopLemmas
 pub mod OtherLemmas
+pub mod StartLemmas

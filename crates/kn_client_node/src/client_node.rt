@@ -63,8 +63,11 @@ fn fresh_node(alloc: Global, server: u64, authority: &str) -> Result<Node, NoMem
 
 impl ClientNode {
     /// A client whose connection to the server has this number, before its first app.
+    #[tactic(auto, using(crate::proofs::StartLemmas::server_stays))]
     pub fn new(alloc: Global, server: u64, authority: &str) -> Result<ClientNode, NoMemory>
-        ensures { IfOk result (λ client. client ≡ call.fresh_node server authority.now) }
+        ensures fresh { IfOk result (λ client. client ≡ call.fresh_node server authority.now) }
+        ensures top { IfOk result (λ client. client.top ≡ server) }
+        ensures stays { IfOk result (λ client. call.shuts_of client server ≡ false) }
     {
         let node = fresh_node(alloc, server, authority)?;
         Ok(ClientNode { node })

@@ -94,7 +94,8 @@ fn wants_on(node: &Node, end: &End) -> bool
 impl ServerNode {
     /// A server without connections. Takes no memory.
     pub fn new(alloc: Global, strategies: Strategies, server_id: Text) -> ServerNode
-        ensures { result ≡ spec.start strategies server_id }
+        ensures start { result ≡ spec.start strategies server_id }
+        ensures top { result.top ≡ 0 }
     {
         ServerNode {
             node: Node {
