@@ -1,0 +1,5 @@
+mod WakeLemmas
+mod FirstLemmas
+mod ListenLemmas
+mod ServeLemmas
+mod TopLemmas

@@ -1,0 +1,4 @@
+pub mod First
+pub mod Programs
+pub mod Sides
+pub mod Working
