@@ -8,6 +8,3 @@ mod sockets;
 pub use end::End;
 pub use run::run_net;
 pub use sockets::run_on_sockets;
-
-#[cfg(test)]
-mod tests;
