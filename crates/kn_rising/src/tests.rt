@@ -1,4 +1,4 @@
-use crate::Rising;
+use crate::{Rising, Stirred};
 use kn_io::NoMemory;
 use std::alloc::Global;
 use std::test::Fail;
@@ -47,5 +47,16 @@ fn members_by_number(rt: HostRuntime) -> Result<(), Fail> {
     ];
     assert_eq!(rt; found, [0, b'B', 0, b'g', b'i']);
     words.holds();
+    Ok(())
+}
+
+#[test]
+fn the_newest_comes_first(rt: HostRuntime) -> Result<(), Fail> {
+    let mut stirred = Stirred::new(rt.alloc());
+    stirred.add(3)?;
+    stirred.add(8)?;
+    stirred.add(3)?;
+    let taken = [stirred.pop(), stirred.pop(), stirred.pop(), stirred.pop()];
+    assert_eq!(rt; taken, [Some(3), Some(8), Some(3), None]);
     Ok(())
 }
