@@ -2,7 +2,7 @@
 # bench/tunnel.sh [PROGRAM [SECONDS]]: what a tunnel through the server's gate of CONNECT and one agent carries, beside
 # a connection straight to the destination in the same run: bytes a second each way, microseconds for a byte there and
 # back, tunnels a second that are opened and closed; the processor time of server and agent for each gigabyte; and the
-# server's memory with 100 idle tunnels. All on this machine's loopback. Compare the ratios of one run.
+# server's memory with 100 idle tunnels; and what a tunnel carries with 500 idle ones beside it. All on this machine's loopback. Compare the ratios of one run.
 here=$(cd "$(dirname "$0")/../examples/processes" && pwd) || exit 1
 . "$here/common.sh"
 seconds=${2:-5}
@@ -61,5 +61,13 @@ echo "opened, used and closed in $seconds s: $straight connections straight, $ca
 start python3 "$measure" hold "$connect" "$echo_address" 100 "$tmp/held"
 await_file "$tmp/held" || failed "100 tunnels"
 echo "the server's memory in kB: $memory_idle after the first tunnel, $(memory "$server" VmRSS) with 100 idle tunnels"
+
+start python3 "$measure" hold "$connect" "$echo_address" 400 "$tmp/held.more"
+await_file "$tmp/held.more" || failed "500 tunnels"
+echo "with 500 idle tunnels beside:"
+stream down "$source_address"
+stream up "$sink_address"
+carried=$(python3 "$measure" latency "$connect" "$echo_address" 3000)
+echo "a byte there and back, median and worst in microseconds: $carried through the tunnel"
 
 [ "$failures" -eq 0 ]

@@ -6,7 +6,7 @@ measure.py churn GATE ADDRESS SECONDS     opens a tunnel, sends five bytes, read
                                           how many tunnels there were
 measure.py down GATE ADDRESS SECONDS      reads for so many seconds: bytes a second
 measure.py up GATE ADDRESS SECONDS        writes for so many seconds: bytes a second that were taken
-measure.py hold GATE ADDRESS COUNT FILE   opens so many tunnels, writes FILE, and holds them for a minute
+measure.py hold GATE ADDRESS COUNT FILE   opens so many tunnels, writes FILE, and holds them for two minutes
 """
 
 import os
@@ -107,7 +107,7 @@ def hold(gate, address, count, file):
     with open(file + ".new", "w") as out:
         out.write(str(len(held)))
     os.replace(file + ".new", file)
-    time.sleep(60)
+    time.sleep(120)
 
 
 KINDS = {"latency": latency, "fill": fill, "churn": churn, "down": down, "up": up, "hold": hold}
