@@ -10,7 +10,7 @@ use Rattle.kn_loop.specs.declared.watch.Watch.{Watch}
 use Rattle.kn_loop.specs.Kept.{line_of, is_in}
 use Rattle.kn_loop.specs.Watch.{new_line}
 use Rattle.kn_loop.specs.Known.{Given, Begins, Starts, IsNew, IsAtHand, bare_watch}
-use Rattle.kn_loop.specs.Calls.{Answers}
+use Rattle.kn_loop.specs.Calls.{Answers, unpaused}
 use Rattle.kn_loop.specs.Turns.{Steady, AtHand, is_active}
 
 hand_none : (told : Option (List Entry)) → AtHand told (line_of [])
@@ -62,7 +62,7 @@ starts_steady None gates drain course w top drawn said told starts fresh below h
     subst (λ v. Steady [] [] v said top drawn told) (sym starts) (bare_steady gates drain course top drawn said told below)
 starts_steady (Some n) gates drain course w top drawn said told starts fresh below hand = record {
   rests = record {
-    covers = λ c h. covers_first n c (n == c) (line_of w.lines c) (said c) refl (starts.lines c) (λ e. subst (λ k. (said k).shuts ≡ false) (first_conn n c e) fresh.2) h;
+    covers = λ c h. covers_first n c (n == c) (line_of w.lines c) (unpaused said c) refl (starts.lines c) (λ e. subst (λ k. (said k).shuts ≡ false) (first_conn n c e) fresh.2) h;
     busy = tt;
   };
   asleep = refl;

@@ -20,7 +20,7 @@ use Rattle.kn_loop.specs.declared.line.Line.{Line}
 use Rattle.kn_loop.specs.declared.gates.GateState.{GateState}
 use Rattle.kn_loop.specs.declared.gates.Gates.{Gates}
 use Rattle.kn_loop.specs.declared.watch.Watch.{Watch}
-use Rattle.kn_loop.specs.Calls.{Answers, Call}
+use Rattle.kn_loop.specs.Calls.{Answers, Call, unpaused}
 use Rattle.kn_loop.specs.Doing.{is_busy, is_due, is_active, may_ask, may_read, may_write}
 use Rattle.kn_loop.specs.Kept.{is_in, line_of}
 use Rattle.kn_loop.specs.Gates.{gate_of, with_gate, is_unsettled, gates_from, gates_after, gate_accepted}
@@ -30,7 +30,7 @@ use Rattle.kn_loop.specs.Turns.{Covers, take_got, take_took}
 use Rattle.kn_loop.specs.Visited.{MadeWith, IsVisited, VisitsOf, VisitsAll, AsksGate, AsksGates, has_visit, is_visit, has_accept, is_accept, is_gate}
 use Rattle.kn_loop.specs.Watch.{lines_from, line_after, at_conn, line_read, line_wrote, line_dialled}
 use Rattle.kn_loop.proofs.Making.{made_then, then_entries, ran_then, ran_next, known_then}
-use Rattle.kn_loop.proofs.Covering.{or_first, or_second, or_cases, key_conn, in_front, in_end, in_split, joined}
+use Rattle.kn_loop.proofs.Covering.{or_first, or_second, or_cases, key_conn, in_front, in_end, in_split, joined, covers_paused}
 
 pub both_ok : {T E : Type 0} {A B C : Type 0} (r : Result T E) → OnOk r A → OnOk r B → (A → B → C) → OnOk r C
 both_ok (Ok x) a b f = f a b
@@ -346,16 +346,16 @@ module _ {N : Type 0} (did : N → Call → N → Type 0) (outgoing : N → ℕ 
 
   -- ---- a whole turn
   -- what a batch in which each that is busy stands visits is all
-  covered : (xs ys : List ℕ) (l : Option Line) (a : Answers) (c : ℕ) → (is_active l a ≡ true → is_in (xs ++ ys) c ≡ true) → is_busy l a ≡ true → is_in (ys ++ xs) c ≡ true
-  covered xs ys l a c cov busy = elim (in_split xs ys c (cov (or_first (is_busy l a) (is_due l a) busy))) [
+  covered : (xs ys : List ℕ) (c : ℕ) → is_in (xs ++ ys) c ≡ true → is_in (ys ++ xs) c ≡ true
+  covered xs ys c h = elim (in_split xs ys c h) [
     | inl p ↦ in_end ys xs c p
     | inr q ↦ in_front ys xs c q
   ]
 
-  visits_all : (xs ys : List ℕ) (k : Known) (node last : N) (es : List Entry) → Covers (is_in (xs ++ ys)) k.lines (said node) → VisitsOf did outgoing said top (is_in (ys ++ xs)) k node last es → VisitsAll did outgoing said top k node last es
-  visits_all xs ys k node last es cov p c busy = p c (covered xs ys (k.lines c) (said node c) c (cov c) busy) busy
+  visits_all : (xs ys : List ℕ) (k : Known) (node last : N) (es : List Entry) → Covers (is_in (xs ++ ys)) k.lines (unpaused (said node)) → VisitsOf did outgoing said top (is_in (ys ++ xs)) k node last es → VisitsAll did outgoing said top k node last es
+  visits_all xs ys k node last es cov p c busy = p c (covered xs ys c (covers_paused (is_in (xs ++ ys)) k.lines (said node) cov c busy)) busy
 
-  served_at : (takes : Gate → Bool) (xs ys : List ℕ) (t0 t1 t2 t3 : Option (List Entry)) (w0 w1 w2 w3 : Watch) (n0 n1 n2 n3 : N) → Covers (is_in (xs ++ ys)) (line_of w0.lines) (said n0)
+  served_at : (takes : Gate → Bool) (xs ys : List ℕ) (t0 t1 t2 t3 : Option (List Entry)) (w0 w1 w2 w3 : Watch) (n0 n1 n2 n3 : N) → Covers (is_in (xs ++ ys)) (line_of w0.lines) (unpaused (said n0))
       → MadeWith did outgoing said top (VisitsOf did outgoing said top (is_in (ys ++ xs)) (known_of w0) n0 n1) t0 t1 w0 w1 n0 n1
       → MadeWith did outgoing said top (AsksGates takes w1.gates) t1 t2 w1 w2 n1 n2
       → Made did outgoing said top t2 t3 w2 w3 n2 n3
@@ -375,7 +375,7 @@ module _ {N : Type 0} (did : N → Call → N → Type 0) (outgoing : N → ℕ 
 
   -- visits, accepts, and the rest of a turn, where what is known and the node were not touched before
   pub served : (takes : Gate → Bool) (k : ℕ) (busy batch : List ℕ) (t0 t1 t2 t3 : Option (List Entry)) (v0 w0 w1 w2 w3 : Watch) (m0 n0 n1 n2 n3 : N) → w0 ≡ v0 → n0 ≡ m0
-      → batch ≡ drop k busy ++ take k busy → Covers (is_in busy) (line_of v0.lines) (said m0)
+      → batch ≡ drop k busy ++ take k busy → Covers (is_in busy) (line_of v0.lines) (unpaused (said m0))
       → MadeWith did outgoing said top (VisitsOf did outgoing said top (is_in batch) (known_of w0) n0 n1) t0 t1 w0 w1 n0 n1
       → MadeWith did outgoing said top (AsksGates takes w1.gates) t1 t2 w1 w2 n1 n2
       → Made did outgoing said top t2 t3 w2 w3 n2 n3
@@ -384,5 +384,5 @@ module _ {N : Type 0} (did : N → Call → N → Type 0) (outgoing : N → ℕ 
       subst (λ w. MadeWith did outgoing said top (λ es. VisitsAll did outgoing said top (known_of w) m0 n3 es × AsksGates takes w.gates es) t0 t3 w w3 m0 n3) e
       (subst (λ n. MadeWith did outgoing said top (λ es. VisitsAll did outgoing said top (known_of w0) n n3 es × AsksGates takes w0.gates es) t0 t3 w0 w3 n n3) f
       (served_at takes (take k busy) (drop k busy) t0 t1 t2 t3 w0 w1 w2 w3 n0 n1 n2 n3
-      (subst (λ ns. Covers (is_in ns) (line_of w0.lines) (said n0)) (sym (joined k busy)) (subst (λ w. Covers (is_in busy) (line_of w.lines) (said n0)) (sym e) (subst (λ n. Covers (is_in busy) (line_of v0.lines) (said n)) (sym f) cov)))
+      (subst (λ ns. Covers (is_in ns) (line_of w0.lines) (unpaused (said n0))) (sym (joined k busy)) (subst (λ w. Covers (is_in busy) (line_of w.lines) (unpaused (said n0))) (sym e) (subst (λ n. Covers (is_in busy) (line_of v0.lines) (unpaused (said n))) (sym f) cov)))
       (subst (λ ns. MadeWith did outgoing said top (VisitsOf did outgoing said top (is_in ns) (known_of w0) n0 n1) t0 t1 w0 w1 n0 n1) order a) b m))

@@ -18,10 +18,10 @@ use Rattle.kn_loop.specs.declared.watch.Watch.{Watch}
 use Rattle.kn_loop.specs.declared.course.Course.{Course}
 use Rattle.kn_loop.specs.declared.turn.Turn.{Turn}
 use Rattle.kn_loop.specs.declared.turn.Turn.TheVariants as turn
-pub use Rattle.kn_loop.specs.Doing.{is_busy, is_due, is_active}
+pub use Rattle.kn_loop.specs.Doing.{is_busy, any_busy, is_due, is_active}
 use Rattle.kn_loop.specs.Kept.{line_of, is_in}
 use Rattle.kn_loop.specs.Gates.{are_gates_settled}
-use Rattle.kn_loop.specs.Calls.{Answers, Call}
+use Rattle.kn_loop.specs.Calls.{Answers, Call, unpaused}
 use Rattle.kn_loop.specs.Known.{Given, Follows, known_of}
 use Rattle.kn_loop.specs.Ran.{Made}
 use Rattle.kn_loop.specs.Visited.{VisitsAll, AsksGates}
@@ -62,7 +62,7 @@ abbrev pub AreBusy : List ℕ → (ℕ → Option Line) → (ℕ → Answers) �
 AreBusy [] lines said = ⊤
 AreBusy (n ∷ ns) lines said = (is_busy (lines n) (said n) ≡ true) × (is_due (lines n) (said n) ≡ false) × AreBusy ns lines said
 
--- Between turns: those that are to be visited, and nobody else, are in the list.
+-- Those at which something is to be done, and nobody else, are in the list; none is to be shut.
 pub record Rests (batch : List ℕ) (lines : ℕ → Option Line) (said : ℕ → Answers) : Type 0 where
   pub covers : Covers (is_in batch) lines said
   pub busy : AreBusy batch lines said
@@ -80,10 +80,10 @@ abbrev pub AtHand : Option (List Entry) → (ℕ → Option Line) → Type 0
 AtHand None lines = ⊤
 AtHand (Some es) lines = (c : ℕ) → is_some (lines c) ≡ true → is_open es c ≡ true
 
--- What holds between turns: those that are to be visited are in the list, none is to be shut, nobody is awake, and
--- what is known was given.
+-- What holds between turns: those at which something would be to do if the bytes of each were wanted are in the list,
+-- none is to be shut, nobody is awake, and what is known was given.
 pub record Steady (batch awake : List ℕ) (w : Watch) (said : ℕ → Answers) (greatest drawn : ℕ) (told : Option (List Entry)) : Type 0 where
-  pub rests : Rests batch (line_of w.lines) said
+  pub rests : Rests batch (line_of w.lines) (unpaused said)
   pub asleep : awake ≡ []
   pub given : Given w greatest drawn
   pub hand : AtHand told (line_of w.lines)

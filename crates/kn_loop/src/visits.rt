@@ -1,5 +1,5 @@
 ghost use Rattle.std.specs.Prelude.{ℕ, Bool, true, false, ◌≡◌, ◌<◌, ◌≤◌, ◌==◌, not, ◌&&◌, List, [], ◌∷◌, length, Some, None, OnOk, is_some};
-ghost use Rattle.kn_loop.specs.Calls.{Wakes};
+ghost use Rattle.kn_loop.specs.Calls.{Wakes, unpaused};
 ghost use Rattle.kn_loop.specs.Doing.{may_ask, may_read, may_write};
 ghost use Rattle.kn_loop.specs.Kept.{is_in, line_of};
 ghost use Rattle.kn_loop.specs.Known.{known_of};
@@ -22,7 +22,7 @@ impl<N: Node + Drop> Running<N> {
         requires wanted { (N.answers self.old.node conn).wants ≡ true }
         requires fits { GotFits got (length self.old.room.items) }
         ensures did { OnOk result (ReadDid N.did N.outgoing self.old.node conn (take_got got self.old.room.items) got self.new.node) }
-        ensures wakes { OnOk result (Wakes (is_in self.old.awake) (is_in self.new.awake) (N.answers self.old.node) (N.answers self.new.node)) }
+        ensures wakes { OnOk result (Wakes (is_in self.old.awake) (is_in self.new.awake) (unpaused (N.answers self.old.node)) (unpaused (N.answers self.new.node))) }
         ensures top { OnOk result (N.top self.new.node ≡ N.top self.old.node) }
         ensures watch { self.new.watch ≡ self.old.watch }
         ensures visit { OnOk result (has_visit (read_entries conn self.old.room.items got) conn ≡ true) }
@@ -46,7 +46,7 @@ impl<N: Node + Drop> Running<N> {
         requires wanted { (N.answers self.old.node conn).wants ≡ true }
         requires line { may_read (line_of self.old.watch.lines conn) ≡ true }
         ensures made { OnOk result (Made N.did N.outgoing N.answers N.top (P.told port.old) (P.told port.new) self.old.watch self.new.watch self.old.node self.new.node) }
-        ensures wakes { OnOk result (Wakes (is_in self.old.awake) (is_in self.new.awake) (N.answers self.old.node) (N.answers self.new.node)) }
+        ensures wakes { OnOk result (Wakes (is_in self.old.awake) (is_in self.new.awake) (unpaused (N.answers self.old.node)) (unpaused (N.answers self.new.node))) }
         ensures touches { OnOk result (Touches conn (line_of self.old.watch.lines) (line_of self.new.watch.lines)) }
         ensures held { OnOk result (self.new.watch.held ≡ self.old.watch.held) }
         ensures top { OnOk result (N.top self.new.node ≡ N.top self.old.node) }
@@ -64,7 +64,7 @@ impl<N: Node + Drop> Running<N> {
         requires given { conn ≤ N.top self.old.node }
         requires fits { TookFits took (length (N.outgoing self.old.node conn)) }
         ensures did { OnOk result (WroteDid N.did N.outgoing self.old.node conn (take_took took (N.outgoing self.old.node conn)) took self.new.node) }
-        ensures wakes { OnOk result (Wakes (is_in self.old.awake) (is_in self.new.awake) (N.answers self.old.node) (N.answers self.new.node)) }
+        ensures wakes { OnOk result (Wakes (is_in self.old.awake) (is_in self.new.awake) (unpaused (N.answers self.old.node)) (unpaused (N.answers self.new.node))) }
         ensures top { OnOk result (N.top self.new.node ≡ N.top self.old.node) }
         ensures watch { self.new.watch ≡ self.old.watch }
         ensures visit { OnOk result (has_visit (write_entries conn (N.outgoing self.old.node conn) took) conn ≡ true) }
@@ -84,7 +84,7 @@ impl<N: Node + Drop> Running<N> {
         requires some { 0 < length (N.outgoing self.old.node conn) }
         requires line { may_write (line_of self.old.watch.lines conn) ≡ true }
         ensures made { OnOk result (Made N.did N.outgoing N.answers N.top (P.told port.old) (P.told port.new) self.old.watch self.new.watch self.old.node self.new.node) }
-        ensures wakes { OnOk result (Wakes (is_in self.old.awake) (is_in self.new.awake) (N.answers self.old.node) (N.answers self.new.node)) }
+        ensures wakes { OnOk result (Wakes (is_in self.old.awake) (is_in self.new.awake) (unpaused (N.answers self.old.node)) (unpaused (N.answers self.new.node))) }
         ensures touches { OnOk result (Touches conn (line_of self.old.watch.lines) (line_of self.new.watch.lines)) }
         ensures held { OnOk result (self.new.watch.held ≡ self.old.watch.held) }
         ensures top { OnOk result (N.top self.new.node ≡ N.top self.old.node) }
@@ -101,7 +101,7 @@ impl<N: Node + Drop> Running<N> {
     fn tell_server_dial(&mut self, conn: u64, end: DialEnd) -> Result<(), NoMemory>
         requires given { conn ≤ N.top self.old.node }
         ensures did { OnOk result (DialEndDid N.did N.outgoing true self.old.node conn end self.new.node) }
-        ensures wakes { OnOk result (Wakes (is_in self.old.awake) (is_in self.new.awake) (N.answers self.old.node) (N.answers self.new.node)) }
+        ensures wakes { OnOk result (Wakes (is_in self.old.awake) (is_in self.new.awake) (unpaused (N.answers self.old.node)) (unpaused (N.answers self.new.node))) }
         ensures top { OnOk result (N.top self.new.node ≡ N.top self.old.node) }
         ensures watch { self.new.watch ≡ self.old.watch }
         ensures visit { OnOk result (has_visit (dial_end_entries conn end) conn ≡ true) }
@@ -118,7 +118,7 @@ impl<N: Node + Drop> Running<N> {
     fn tell_dial(&mut self, conn: u64, end: DialEnd) -> Result<(), NoMemory>
         requires given { conn ≤ N.top self.old.node }
         ensures did { OnOk result (DialEndDid N.did N.outgoing false self.old.node conn end self.new.node) }
-        ensures wakes { OnOk result (Wakes (is_in self.old.awake) (is_in self.new.awake) (N.answers self.old.node) (N.answers self.new.node)) }
+        ensures wakes { OnOk result (Wakes (is_in self.old.awake) (is_in self.new.awake) (unpaused (N.answers self.old.node)) (unpaused (N.answers self.new.node))) }
         ensures top { OnOk result (N.top self.new.node ≡ N.top self.old.node) }
         ensures watch { self.new.watch ≡ self.old.watch }
         ensures visit { OnOk result (has_visit (dial_end_entries conn end) conn ≡ true) }
@@ -134,7 +134,7 @@ impl<N: Node + Drop> Running<N> {
     fn tell_dial_end(&mut self, conn: u64, is_server: bool, end: DialEnd) -> Result<(), NoMemory>
         requires given { conn ≤ N.top self.old.node }
         ensures did { OnOk result (DialEndDid N.did N.outgoing is_server self.old.node conn end self.new.node) }
-        ensures wakes { OnOk result (Wakes (is_in self.old.awake) (is_in self.new.awake) (N.answers self.old.node) (N.answers self.new.node)) }
+        ensures wakes { OnOk result (Wakes (is_in self.old.awake) (is_in self.new.awake) (unpaused (N.answers self.old.node)) (unpaused (N.answers self.new.node))) }
         ensures top { OnOk result (N.top self.new.node ≡ N.top self.old.node) }
         ensures watch { self.new.watch ≡ self.old.watch }
         ensures visit { OnOk result (has_visit (dial_end_entries conn end) conn ≡ true) }
@@ -152,7 +152,7 @@ impl<N: Node + Drop> Running<N> {
         requires below { N.top self.old.node ≤ P.last port.old }
         requires line { may_ask (line_of self.old.watch.lines conn) ≡ true }
         ensures made { OnOk result (Made N.did N.outgoing N.answers N.top (P.told port.old) (P.told port.new) self.old.watch self.new.watch self.old.node self.new.node) }
-        ensures wakes { OnOk result (Wakes (is_in self.old.awake) (is_in self.new.awake) (N.answers self.old.node) (N.answers self.new.node)) }
+        ensures wakes { OnOk result (Wakes (is_in self.old.awake) (is_in self.new.awake) (unpaused (N.answers self.old.node)) (unpaused (N.answers self.new.node))) }
         ensures touches { OnOk result (Touches conn (line_of self.old.watch.lines) (line_of self.new.watch.lines)) }
         ensures held { OnOk result (self.new.watch.held ≡ self.old.watch.held) }
         ensures top { OnOk result (N.top self.new.node ≡ N.top self.old.node) }
@@ -199,7 +199,7 @@ impl<N: Node + Drop> Running<N> {
         requires given { (0 < conn) × (conn ≤ N.top self.old.node) }
         requires below { N.top self.old.node ≤ P.last port.old }
         ensures made { OnOk result (Made N.did N.outgoing N.answers N.top (P.told port.old) (P.told port.new) self.old.watch self.new.watch self.old.node self.new.node) }
-        ensures wakes { OnOk result (Wakes (is_in self.old.awake) (is_in self.new.awake) (N.answers self.old.node) (N.answers self.new.node)) }
+        ensures wakes { OnOk result (Wakes (is_in self.old.awake) (is_in self.new.awake) (unpaused (N.answers self.old.node)) (unpaused (N.answers self.new.node))) }
         ensures touches { OnOk result (Touches conn (line_of self.old.watch.lines) (line_of self.new.watch.lines)) }
         ensures held { OnOk result (self.new.watch.held ≡ self.old.watch.held) }
         ensures top { OnOk result (N.top self.new.node ≡ N.top self.old.node) }
@@ -219,7 +219,7 @@ impl<N: Node + Drop> Running<N> {
         requires given { (0 < conn) × (conn ≤ N.top self.old.node) }
         requires below { N.top self.old.node ≤ P.last port.old }
         ensures made { OnOk result (Made N.did N.outgoing N.answers N.top (P.told port.old) (P.told port.new) self.old.watch self.new.watch self.old.node self.new.node) }
-        ensures wakes { OnOk result (Wakes (is_in self.old.awake) (is_in self.new.awake) (N.answers self.old.node) (N.answers self.new.node)) }
+        ensures wakes { OnOk result (Wakes (is_in self.old.awake) (is_in self.new.awake) (unpaused (N.answers self.old.node)) (unpaused (N.answers self.new.node))) }
         ensures touches { OnOk result (Touches conn (line_of self.old.watch.lines) (line_of self.new.watch.lines)) }
         ensures held { OnOk result (self.new.watch.held ≡ self.old.watch.held) }
         ensures top { OnOk result (N.top self.new.node ≡ N.top self.old.node) }
@@ -238,7 +238,7 @@ impl<N: Node + Drop> Running<N> {
         requires given { (0 < conn) × (conn ≤ N.top self.old.node) }
         requires below { N.top self.old.node ≤ P.last port.old }
         ensures made { OnOk result (Made N.did N.outgoing N.answers N.top (P.told port.old) (P.told port.new) self.old.watch self.new.watch self.old.node self.new.node) }
-        ensures wakes { OnOk result (Wakes (is_in self.old.awake) (is_in self.new.awake) (N.answers self.old.node) (N.answers self.new.node)) }
+        ensures wakes { OnOk result (Wakes (is_in self.old.awake) (is_in self.new.awake) (unpaused (N.answers self.old.node)) (unpaused (N.answers self.new.node))) }
         ensures touches { OnOk result (Touches conn (line_of self.old.watch.lines) (line_of self.new.watch.lines)) }
         ensures held { OnOk result (self.new.watch.held ≡ self.old.watch.held) }
         ensures top { OnOk result (N.top self.new.node ≡ N.top self.old.node) }
@@ -256,7 +256,7 @@ impl<N: Node + Drop> Running<N> {
         requires given { (0 < conn) × (conn ≤ N.top self.old.node) }
         requires below { N.top self.old.node ≤ P.last port.old }
         ensures made { OnOk result (Made N.did N.outgoing N.answers N.top (P.told port.old) (P.told port.new) self.old.watch self.new.watch self.old.node self.new.node) }
-        ensures wakes { OnOk result (Wakes (is_in self.old.awake) (is_in self.new.awake) (N.answers self.old.node) (N.answers self.new.node)) }
+        ensures wakes { OnOk result (Wakes (is_in self.old.awake) (is_in self.new.awake) (unpaused (N.answers self.old.node)) (unpaused (N.answers self.new.node))) }
         ensures touches { OnOk result (Touches conn (line_of self.old.watch.lines) (line_of self.new.watch.lines)) }
         ensures held { OnOk result (self.new.watch.held ≡ self.old.watch.held) }
         ensures top { OnOk result (N.top self.new.node ≡ N.top self.old.node) }
@@ -276,7 +276,7 @@ impl<N: Node + Drop> Running<N> {
         requires given { (0 < conn) × (conn ≤ N.top self.old.node) }
         requires below { N.top self.old.node ≤ P.last port.old }
         ensures made { OnOk result (Made N.did N.outgoing N.answers N.top (P.told port.old) (P.told port.new) self.old.watch self.new.watch self.old.node self.new.node) }
-        ensures visits { OnOk result (Visits conn (is_in self.old.awake) (is_in self.new.awake) (line_of self.old.watch.lines) (line_of self.new.watch.lines) (N.answers self.old.node) (N.answers self.new.node)) }
+        ensures visits { OnOk result (Visits conn (is_in self.old.awake) (is_in self.new.awake) (line_of self.old.watch.lines) (line_of self.new.watch.lines) (unpaused (N.answers self.old.node)) (unpaused (N.answers self.new.node))) }
         ensures conns { OnOk result (SameConns (line_of self.old.watch.lines) (line_of self.new.watch.lines)) }
         ensures held { OnOk result (self.new.watch.held ≡ self.old.watch.held) }
         ensures top { OnOk result (N.top self.new.node ≡ N.top self.old.node) }
@@ -291,11 +291,11 @@ impl<N: Node + Drop> Running<N> {
 
     /// Visits each of these connections.
     pub(crate) fn visit_all<P: Port>(&mut self, port: &mut P, batch: &[u64]) -> Result<(), NoMemory>
-        requires covers { CoversBut (is_in self.old.awake) (is_in batch.now) (line_of self.old.watch.lines) (N.answers self.old.node) }
+        requires covers { CoversBut (is_in self.old.awake) (is_in batch.now) (line_of self.old.watch.lines) (unpaused (N.answers self.old.node)) }
         requires given { AreAllGiven batch.now (N.top self.old.node) }
         requires below { N.top self.old.node ≤ P.last port.old }
         ensures made { OnOk result (Made N.did N.outgoing N.answers N.top (P.told port.old) (P.told port.new) self.old.watch self.new.watch self.old.node self.new.node) }
-        ensures covers { OnOk result (Covers (is_in self.new.awake) (line_of self.new.watch.lines) (N.answers self.new.node)) }
+        ensures covers { OnOk result (Covers (is_in self.new.awake) (line_of self.new.watch.lines) (unpaused (N.answers self.new.node))) }
         ensures conns { OnOk result (SameConns (line_of self.old.watch.lines) (line_of self.new.watch.lines)) }
         ensures held { OnOk result (self.new.watch.held ≡ self.old.watch.held) }
         ensures top { OnOk result (N.top self.new.node ≡ N.top self.old.node) }

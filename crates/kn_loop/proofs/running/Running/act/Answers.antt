@@ -1,4 +1,5 @@
 use Rattle.std.proofs.Common.{sym, ◌∙◌, subst, take, drop}
+use Rattle.kn_loop.specs.Calls.{unpaused}
 use Rattle.kn_loop.specs.Kept.{is_in, line_of}
 use Rattle.kn_loop.specs.Ran.{Made}
 use Rattle.kn_loop.specs.Turns.{Covers, AreAllGiven}
@@ -11,15 +12,15 @@ use Rattle.kn_loop.proofs.running.Running.act.Goals as goal
 pub visit_all-requires-clause-covers : goal.visit_all-requires-clause-covers
 visit_all-requires-clause-covers g c =
     rw (c.as_slice.ensures.value, c.take_batch-batch.ensures.order.1, c.take_batch-batch.ensures.watch, c.take_batch-batch.ensures.node)
-    (covers_turned (take c.take_batch-batch.ensures.order.0 c.args.self.now.busy.items) (drop c.take_batch-batch.ensures.order.0 c.args.self.now.busy.items) (is_in c.take_batch-batch.new.self.awake) (line_of c.args.self.now.watch.lines) (g.N.Node.answers c.args.self.now.node)
-    (subst (λ ns. Covers (is_in ns) (line_of c.args.self.now.watch.lines) (g.N.Node.answers c.args.self.now.node)) (sym (joined c.take_batch-batch.ensures.order.0 c.args.self.now.busy.items)) c.requires.steady.rests.covers))
+    (covers_turned (take c.take_batch-batch.ensures.order.0 c.args.self.now.busy.items) (drop c.take_batch-batch.ensures.order.0 c.args.self.now.busy.items) (is_in c.take_batch-batch.new.self.awake) (line_of c.args.self.now.watch.lines) (unpaused (g.N.Node.answers c.args.self.now.node))
+    (subst (λ ns. Covers (is_in ns) (line_of c.args.self.now.watch.lines) (unpaused (g.N.Node.answers c.args.self.now.node))) (sym (joined c.take_batch-batch.ensures.order.0 c.args.self.now.busy.items)) c.requires.steady.rests.covers))
 
 pub visit_all-requires-clause-given : goal.visit_all-requires-clause-given
 visit_all-requires-clause-given g c =
     rw (c.as_slice.ensures.value, c.take_batch-batch.ensures.order.1, c.take_batch-batch.ensures.node)
     (given_turned (take c.take_batch-batch.ensures.order.0 c.args.self.now.busy.items) (drop c.take_batch-batch.ensures.order.0 c.args.self.now.busy.items) (g.N.Node.top c.args.self.now.node)
     (subst (λ ns. AreAllGiven ns (g.N.Node.top c.args.self.now.node)) (sym (joined c.take_batch-batch.ensures.order.0 c.args.self.now.busy.items))
-    (all_given c.args.self.now.busy.items c.args.self.now.watch (g.N.Node.top c.args.self.now.node) (g.P.Port.last c.args.port.now) (g.N.Node.answers c.args.self.now.node) c.requires.steady.given c.requires.steady.rests.busy)))
+    (all_given c.args.self.now.busy.items c.args.self.now.watch (g.N.Node.top c.args.self.now.node) (g.P.Port.last c.args.port.now) (unpaused (g.N.Node.answers c.args.self.now.node)) c.requires.steady.given c.requires.steady.rests.busy)))
 
 pub accept_all-requires-clause-given : goal.accept_all-requires-clause-given
 accept_all-requires-clause-given g c = given_same c.take_batch-batch.new.self.watch c.visit_all.new.self.watch (g.N.Node.top c.take_batch-batch.new.self.node) (g.N.Node.top c.visit_all.new.self.node) (g.P.Port.last c.args.port.now) (g.P.Port.last c.visit_all.new.port)

@@ -1,4 +1,5 @@
 use Rattle.std.proofs.Common.{◌≡◌, ◌≤◌, length}
+use Rattle.kn_loop.specs.Calls.{unpaused}
 use Rattle.kn_loop.specs.Kept.{is_in, line_of}
 use Rattle.kn_loop.specs.Known.{known_of}
 use Rattle.kn_loop.specs.Ran.{Made}
@@ -10,7 +11,7 @@ use Rattle.kn_loop.proofs.running.Running.visit_all.Given as goal
 abbrev pub invariant-loop-first : goal.invariant-loop-first
 invariant-loop-first g l = record {
   made : Made g.N.Node.did g.N.Node.outgoing g.N.Node.answers g.N.Node.top (g.P.Port.told l.fn.port) (g.P.Port.told l.port) l.fn.self.watch l.self.watch l.fn.self.node l.self.node;
-  covers : CoversBut (is_in l.self.awake) (is_in l.rest) (line_of l.self.watch.lines) (g.N.Node.answers l.self.node);
+  covers : CoversBut (is_in l.self.awake) (is_in l.rest) (line_of l.self.watch.lines) (unpaused (g.N.Node.answers l.self.node));
   conns : SameConns (line_of l.fn.self.watch.lines) (line_of l.self.watch.lines);
   held : l.self.watch.held ≡ l.fn.self.watch.held;
   given : AreAllGiven l.rest (g.N.Node.top l.self.node);
