@@ -1,6 +1,6 @@
 -- What wakes connections.
-use Rattle.std.proofs.Common.{◌≡◌, ℕ, ◌==◌, ◌||◌, Bool, true, false, not, List, [], ◌∷◌, ◌++◌, length, refl, sym, ◌∙◌, ap, subst}
-use Rattle.std.specs.Prelude.{Option, Some, None, MatchOption}
+use Rattle.std.proofs.Common.{◌≡◌, ℕ, ◌==◌, ◌||◌, Bool, true, false, not, List, [], ◌∷◌, ◌++◌, length, refl, sym, ◌∙◌, ap, subst, Result, Ok, Err}
+use Rattle.std.specs.Prelude.{Option, Some, None, MatchOption, OnOk}
 use Rattle.kn_rising.specs.Stirring.{is_stirred}
 use Rattle.kn_loop.specs.Calls.{Answers, Wakes, unpaused}
 use Rattle.kn_server_node.specs.declared.node.Node as server_node
@@ -12,7 +12,11 @@ use Rattle.kn_agent_node.specs.Answers as agent_answer
 use Rattle.kn_client_node.specs.declared.node.Node as client_node
 use Rattle.kn_client_node.specs.Calls as client
 use Rattle.kn_client_node.specs.Calls.{out_of, shuts_of}
-use Rattle.kn_serve.specs.Sides.{WakesStirred, answers_with, server_answers, agent_answers, client_answers, to_dial}
+use Rattle.kn_serve.specs.Sides.{WakesStirred, answers_with, server_answers, agent_answers, client_answers}
+
+pub both_ok : {T E : Type 0} {A B C : Type 0} (r : Result T E) → OnOk r A → OnOk r B → (A → B → C) → OnOk r C
+both_ok (Ok x) a b f = f a b
+both_ok (Err e) a b f = tt
 
 -- ---- one more is woken
 -- who was awake is so still
@@ -43,6 +47,19 @@ pub left_after : (n : ℕ) (all before after : List ℕ) (awake0 awake1 : ℕ �
 left_after n all before after awake0 awake1 e added left c h =
     let off : ((n == c) ≡ false) × (awake0 c ≡ false) = asleep_still n c (awake0 c) (awake1 c) (added c) h in
     left c off.1 ∙ ap (is_stirred c) e ∙ last_other n c after off.0
+
+-- of a node nothing else is other than before
+pub server_popped : (all old new : server_node.Node) (stirred : List ℕ) → old ≡ record new { stirred = stirred } → old ≡ record all { stirred = old.stirred } → new ≡ record all { stirred = new.stirred }
+server_popped all old new stirred e f =
+    sym (ap {A = server_node.Node} (λ n. record n { stirred = new.stirred }) e) ∙ ap {A = server_node.Node} (λ n. record n { stirred = new.stirred }) f
+
+pub agent_popped : (all old new : agent_node.Node) (stirred : List ℕ) → old ≡ record new { stirred = stirred } → old ≡ record all { stirred = old.stirred } → new ≡ record all { stirred = new.stirred }
+agent_popped all old new stirred e f =
+    sym (ap {A = agent_node.Node} (λ n. record n { stirred = new.stirred }) e) ∙ ap {A = agent_node.Node} (λ n. record n { stirred = new.stirred }) f
+
+pub client_popped : (all old new : client_node.Node) (stirred : List ℕ) → old ≡ record new { stirred = stirred } → old ≡ record all { ended = []; stirred = old.stirred } → new ≡ record all { ended = []; stirred = new.stirred }
+client_popped all old new stirred e f =
+    sym (ap {A = client_node.Node} (λ n. record n { stirred = new.stirred }) e) ∙ ap {A = client_node.Node} (λ n. record n { stirred = new.stirred }) f
 
 -- ---- a call, and then what was stirred is taken out
 same_answers : (wants1 wants0 : Bool) (out1 out0 : List ℕ) (shuts1 shuts0 : Bool) → out1 ≡ out0 → shuts1 ≡ shuts0
@@ -85,15 +102,12 @@ handed_wakes given old new awake h c = (λ e. e, λ e. handed_at given old new c
 
 client_same : (old mid : client_node.Node) (c : ℕ) → (client.out_of mid c ≡ client.out_of old c) × (client.shuts_of mid c ≡ client.shuts_of old c)
     → unpaused (client_answers (record mid { ended = []; stirred = [] })) c ≡ unpaused (client_answers old) c
-unfolding (out_of, shuts_of)
+unfolding out_of shuts_of
 client_same old mid c p = same_answers (client.wants_of mid c) (client.wants_of old c) (client.out_of mid c) (client.out_of old c) (client.shuts_of mid c) (client.shuts_of old c) p.0 p.1
 
-pub client_wakes : (old mid told new : client_node.Node) (awake0 awake1 : ℕ → Bool) → client.Stirs old mid → told ≡ record mid { ended = [] } → WakesStirred told.stirred awake0 awake1 → new ≡ record told { stirred = [] }
+pub client_wakes : (old mid new : client_node.Node) (awake0 awake1 : ℕ → Bool) → client.Stirs old mid → WakesStirred mid.stirred awake0 awake1 → new ≡ record mid { ended = []; stirred = [] }
     → Wakes awake0 awake1 (unpaused (client_answers old)) (unpaused (client_answers new))
-client_wakes old mid told new awake0 awake1 stirs f wakes e c =
-    let stirred : told.stirred ≡ mid.stirred = ap (λ n. n.stirred) f in
-    let last : new ≡ record mid { ended = []; stirred = [] } = e ∙ ap (λ n. record n { stirred = [] }) f in (
-      (wakes c).0,
-      λ h. subst (λ n. unpaused (client_answers n) c ≡ unpaused (client_answers old) c) (sym last)
-          (client_same old mid c ((stirs c).1 (subst (λ ns. is_stirred c ns ≡ false) stirred ((wakes c).1 h)))),
-    )
+client_wakes old mid new awake0 awake1 stirs wakes e c = (
+  (wakes c).0,
+  λ h. subst (λ n. unpaused (client_answers n) c ≡ unpaused (client_answers old) c) (sym e) (client_same old mid c ((stirs c).1 ((wakes c).1 h))),
+)

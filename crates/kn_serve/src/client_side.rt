@@ -22,13 +22,14 @@ pub(crate) struct ClientSide {
 }
 
 impl ClientSide {
-    /// Takes out the connections that the node stirred, and wakes them.
+    /// Drops what apps would be told, takes out the connections that the node stirred, and wakes them.
     fn wake(&mut self, awake: &mut Awake) -> Result<(), NoMemory>
-        ensures taken { OnOk result (self.new.node ≡ record self.old.node { stirred = [] }) }
+        ensures taken { OnOk result (self.new.node ≡ record self.old.node { ended = []; stirred = [] }) }
         ensures wakes { OnOk result (side.WakesStirred self.old.node.stirred (is_in awake.old) (is_in awake.new)) }
         ensures other { self.new.other ≡ self.old.other }
         ensures address { self.new.address ≡ self.old.address }
     {
+        self.node.drop_ended(self.alloc);
         while let Some(conn) = self.node.next_stirred() {
             awake.add(conn)?;
         }
@@ -88,31 +89,26 @@ impl Node for ClientSide {
     fn opened(&mut self, awake: &mut Awake, conn: u64, gate: Gate) -> Result<(), NoMemory> {
         let _gate = gate;
         self.node.app(self.alloc, conn, self.address.as_str())?;
-        self.node.drop_ended(self.alloc);
         self.wake(awake)
     }
 
     fn bytes(&mut self, awake: &mut Awake, conn: u64, piece: &[u8]) -> Result<(), NoMemory> {
         self.node.bytes(self.alloc, conn, piece)?;
-        self.node.drop_ended(self.alloc);
         self.wake(awake)
     }
 
     fn took(&mut self, awake: &mut Awake, conn: u64, count: usize) -> Result<(), NoMemory> {
         self.node.took(self.alloc, conn, count)?;
-        self.node.drop_ended(self.alloc);
         self.wake(awake)
     }
 
     fn ended(&mut self, awake: &mut Awake, conn: u64) -> Result<(), NoMemory> {
         self.node.ended(self.alloc, conn)?;
-        self.node.drop_ended(self.alloc);
         self.wake(awake)
     }
 
     fn lost(&mut self, awake: &mut Awake, conn: u64) -> Result<(), NoMemory> {
         self.node.lost(self.alloc, conn)?;
-        self.node.drop_ended(self.alloc);
         self.wake(awake)
     }
 
