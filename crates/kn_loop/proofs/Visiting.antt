@@ -21,7 +21,7 @@ use Rattle.kn_loop.specs.declared.gates.GateState.{GateState}
 use Rattle.kn_loop.specs.declared.gates.Gates.{Gates}
 use Rattle.kn_loop.specs.declared.watch.Watch.{Watch}
 use Rattle.kn_loop.specs.Calls.{Answers, Call, unpaused}
-use Rattle.kn_loop.specs.Doing.{is_busy, is_due, is_active, may_ask, may_read, may_write}
+use Rattle.kn_loop.specs.Doing.{is_busy, is_due, is_active, may_ask, may_read, may_write, reads_now, writes_now}
 use Rattle.kn_loop.specs.Kept.{is_in, line_of}
 use Rattle.kn_loop.specs.Gates.{gate_of, with_gate, is_unsettled, gates_from, gates_after, gate_accepted}
 use Rattle.kn_loop.specs.Known.{Known, known_of, known_after, known_from, held_after, drain_after, Follows}
@@ -60,21 +60,21 @@ accept_end (e ∷ es) fs g h = or_second (is_accept e g) (has_accept (es ++ fs) 
 -- ---- what is to be done at a connection is to ask, to read or to write
 serves_at : (failed dialling ended reads writes asked wants out : Bool) → (dialling && not failed) ≡ false
     → not (if failed then true else if dialling then reads || not asked else (ended || reads || not wants) && (writes || not out)) ≡ true
-    → ((not dialling && not ended && not failed) && wants) ≡ false → ((not dialling && not failed) && out) ≡ true
+    → ((not dialling && not ended && not failed) && not reads && wants) ≡ false → ((not dialling && not failed) && not writes && out) ≡ true
 serves_at true dialling ended reads writes asked wants out a b r = cc
 serves_at false true ended reads writes asked wants out a b r = cc
 serves_at false false true reads true asked wants out a b r = cc
 serves_at false false true reads false asked wants true a b r = refl
 serves_at false false true reads false asked wants false a b r = cc
-serves_at false false false reads writes asked true out a b r = cc
-serves_at false false false true true asked false out a b r = cc
-serves_at false false false true false asked false true a b r = refl
-serves_at false false false true false asked false false a b r = cc
+serves_at false false false true true asked wants out a b r = cc
+serves_at false false false true false asked wants true a b r = refl
+serves_at false false false true false asked wants false a b r = cc
+serves_at false false false false writes asked true out a b r = cc
 serves_at false false false false true asked false out a b r = cc
 serves_at false false false false false asked false true a b r = refl
 serves_at false false false false false asked false false a b r = cc
 
-pub busy_serves : (l : Option Line) (a : Answers) → may_ask l ≡ false → is_busy l a ≡ true → (may_read l && a.wants) ≡ false → (may_write l && a.has_out) ≡ true
+pub busy_serves : (l : Option Line) (a : Answers) → may_ask l ≡ false → is_busy l a ≡ true → reads_now l a ≡ false → writes_now l a ≡ true
 busy_serves None a ask busy read = cc
 busy_serves (Some l) a ask busy read = serves_at l.failed l.dialling l.ended l.read_waits l.write_waits l.asked a.wants a.has_out ask busy read
 
@@ -229,24 +229,24 @@ module _ {N : Type 0} (did : N → Call → N → Type 0) (outgoing : N → ℕ 
   }
 
   -- a read where it is due, then a write where it is due
-  exchange_at : (n : ℕ) (es fs : List Entry) (l0 l1 : Option Line) (a0 a1 : Answers) (b : Bool) → (may_read l0 && a0.wants) ≡ b → ((may_read l0 && a0.wants) ≡ false → (l1 ≡ l0) × (a1 ≡ a0))
-      → ((may_read l0 && a0.wants) ≡ true → has_visit es n ≡ true) → ((may_write l1 && a1.has_out) ≡ true → has_visit fs n ≡ true)
+  exchange_at : (n : ℕ) (es fs : List Entry) (l0 l1 : Option Line) (a0 a1 : Answers) (b : Bool) → reads_now l0 a0 ≡ b → (reads_now l0 a0 ≡ false → (l1 ≡ l0) × (a1 ≡ a0))
+      → (reads_now l0 a0 ≡ true → has_visit es n ≡ true) → (writes_now l1 a1 ≡ true → has_visit fs n ≡ true)
       → may_ask l0 ≡ false → is_busy l0 a0 ≡ true → has_visit (es ++ fs) n ≡ true
   exchange_at n es fs l0 l1 a0 a1 true e same reads writes ask busy = visit_front es fs n (reads e)
   exchange_at n es fs l0 l1 a0 a1 false e same reads writes ask busy =
-      visit_end es fs n (writes (subst (λ l. (may_write l && a1.has_out) ≡ true) (sym (same e).0) (subst (λ a. (may_write l0 && a.has_out) ≡ true) (sym (same e).1) (busy_serves l0 a0 ask busy e))))
+      visit_end es fs n (writes (subst (λ l. writes_now l a1 ≡ true) (sym (same e).0) (subst (λ a. writes_now l0 a ≡ true) (sym (same e).1) (busy_serves l0 a0 ask busy e))))
 
   pub exchange_visits : (n : ℕ) (t0 t1 t2 : Option (List Entry)) (w0 w1 w2 : Watch) (n0 n1 n2 : N)
-      → MadeWith did outgoing said top (λ es. (may_read (line_of w0.lines n) && (said n0 n).wants) ≡ true → has_visit es n ≡ true) t0 t1 w0 w1 n0 n1
-      → ((may_read (line_of w0.lines n) && (said n0 n).wants) ≡ false → (w1 ≡ w0) × (n1 ≡ n0))
-      → MadeWith did outgoing said top (λ es. (may_write (line_of w1.lines n) && (said n1 n).has_out) ≡ true → has_visit es n ≡ true) t1 t2 w1 w2 n1 n2
+      → MadeWith did outgoing said top (λ es. reads_now (line_of w0.lines n) (said n0 n) ≡ true → has_visit es n ≡ true) t0 t1 w0 w1 n0 n1
+      → (reads_now (line_of w0.lines n) (said n0 n) ≡ false → (w1 ≡ w0) × (n1 ≡ n0))
+      → MadeWith did outgoing said top (λ es. writes_now (line_of w1.lines n) (said n1 n) ≡ true → has_visit es n ≡ true) t1 t2 w1 w2 n1 n2
       → MadeWith did outgoing said top (λ es. may_ask (line_of w0.lines n) ≡ false → is_busy (line_of w0.lines n) (said n0 n) ≡ true → has_visit es n ≡ true) t0 t2 w0 w2 n0 n2
   exchange_visits n t0 t1 t2 w0 w1 w2 n0 n1 n2 p idle q =
-      with_then (λ es. (may_read (line_of w0.lines n) && (said n0 n).wants) ≡ true → has_visit es n ≡ true)
-      (λ es. (may_write (line_of w1.lines n) && (said n1 n).has_out) ≡ true → has_visit es n ≡ true)
+      with_then (λ es. reads_now (line_of w0.lines n) (said n0 n) ≡ true → has_visit es n ≡ true)
+      (λ es. writes_now (line_of w1.lines n) (said n1 n) ≡ true → has_visit es n ≡ true)
       (λ es. may_ask (line_of w0.lines n) ≡ false → is_busy (line_of w0.lines n) (said n0 n) ≡ true → has_visit es n ≡ true)
       t0 t1 t2 w0 w1 w2 n0 n1 n2 p q
-      (exchange_at n p.made.entries q.made.entries (line_of w0.lines n) (line_of w1.lines n) (said n0 n) (said n1 n) (may_read (line_of w0.lines n) && (said n0 n).wants) refl
+      (exchange_at n p.made.entries q.made.entries (line_of w0.lines n) (line_of w1.lines n) (said n0 n) (said n1 n) (reads_now (line_of w0.lines n) (said n0 n)) refl
       (λ e. (ap (λ w. line_of w.lines n) (idle e).0, ap (λ m. said m n) (idle e).1)) p.holds q.holds)
 
   -- ---- each of a batch

@@ -34,3 +34,13 @@ may_read (Some l) = line_may_read l
 abbrev pub may_write : Option Line → Bool
 may_write None = false
 may_write (Some l) = line_may_write l
+
+-- bytes are to be read now: they are wanted, and no read waits for the port to name the connection
+abbrev pub reads_now : Option Line → Answers → Bool
+reads_now None a = false
+reads_now (Some l) a = line_may_read l && not l.read_waits && a.wants
+
+-- bytes are to be written now: there are some, and no write waits
+abbrev pub writes_now : Option Line → Answers → Bool
+writes_now None a = false
+writes_now (Some l) a = line_may_write l && not l.write_waits && a.has_out

@@ -1,6 +1,6 @@
 ghost use Rattle.std.specs.Prelude.{ℕ, Bool, true, false, ◌≡◌, ◌<◌, ◌≤◌, ◌==◌, not, ◌&&◌, List, [], ◌∷◌, length, Some, None, OnOk, is_some};
 ghost use Rattle.kn_loop.specs.Calls.{Wakes, unpaused};
-ghost use Rattle.kn_loop.specs.Doing.{may_ask, may_read, may_write};
+ghost use Rattle.kn_loop.specs.Doing.{may_ask, may_read, may_write, reads_now, writes_now};
 ghost use Rattle.kn_loop.specs.Kept.{is_in, line_of};
 ghost use Rattle.kn_loop.specs.Known.{known_of};
 ghost use Rattle.kn_loop.specs.Ran.{Made, ReadDid, WroteDid, DialEndDid, leads_to_server};
@@ -175,21 +175,26 @@ impl<N: Node + Drop> Running<N> {
         }
     }
 
-    fn may_read(&self, conn: u64) -> bool
-        ensures { result ≡ (may_read (line_of self.now.watch.lines conn) && (N.answers self.now.node conn).wants) }
+    /// Whether bytes are to be read now. One whose read waits is not read again until the port names it.
+    fn reads_now(&self, conn: u64) -> bool
+        ensures value { result ≡ reads_now (line_of self.now.watch.lines conn) (N.answers self.now.node conn) }
+        ensures may { result ≡ true → may_read (line_of self.now.watch.lines conn) ≡ true }
+        ensures wanted { result ≡ true → (N.answers self.now.node conn).wants ≡ true }
     {
         match self.watch.lines.get(conn) {
-            Some(line) => line.may_read() && self.node.wants(conn),
+            Some(line) => line.may_read() && !line.read_waits && self.node.wants(conn),
             None => false,
         }
     }
 
-    fn may_write(&self, conn: u64) -> bool
-        ensures value { result ≡ (may_write (line_of self.now.watch.lines conn) && (N.answers self.now.node conn).has_out) }
+    /// Whether bytes are to be written now.
+    fn writes_now(&self, conn: u64) -> bool
+        ensures value { result ≡ writes_now (line_of self.now.watch.lines conn) (N.answers self.now.node conn) }
+        ensures may { result ≡ true → may_write (line_of self.now.watch.lines conn) ≡ true }
         ensures some { result ≡ true → 0 < length (N.outgoing self.now.node conn) }
     {
         match self.watch.lines.get(conn) {
-            Some(line) => line.may_write() && !self.node.out(conn).is_empty(),
+            Some(line) => line.may_write() && !line.write_waits && !self.node.out(conn).is_empty(),
             None => false,
         }
     }
@@ -205,10 +210,10 @@ impl<N: Node + Drop> Running<N> {
         ensures top { OnOk result (N.top self.new.node ≡ N.top self.old.node) }
         ensures faults { P.faults port.old ≤ P.faults port.new }
         ensures last { P.last port.new ≡ P.last port.old }
-        ensures visited { OnOk result (MadeWith N.did N.outgoing N.answers N.top (λ es. (may_read (line_of self.old.watch.lines conn) && (N.answers self.old.node conn).wants) ≡ true → has_visit es conn ≡ true) (P.told port.old) (P.told port.new) self.old.watch self.new.watch self.old.node self.new.node) }
-        ensures idle { OnOk result ((may_read (line_of self.old.watch.lines conn) && (N.answers self.old.node conn).wants) ≡ false → (self.new.watch ≡ self.old.watch) × (self.new.node ≡ self.old.node)) }
+        ensures visited { OnOk result (MadeWith N.did N.outgoing N.answers N.top (λ es. reads_now (line_of self.old.watch.lines conn) (N.answers self.old.node conn) ≡ true → has_visit es conn ≡ true) (P.told port.old) (P.told port.new) self.old.watch self.new.watch self.old.node self.new.node) }
+        ensures idle { OnOk result (reads_now (line_of self.old.watch.lines conn) (N.answers self.old.node conn) ≡ false → (self.new.watch ≡ self.old.watch) × (self.new.node ≡ self.old.node)) }
     {
-        if self.may_read(conn) {
+        if self.reads_now(conn) {
             return self.read_once(port, conn);
         }
         Ok(())
@@ -225,9 +230,9 @@ impl<N: Node + Drop> Running<N> {
         ensures top { OnOk result (N.top self.new.node ≡ N.top self.old.node) }
         ensures faults { P.faults port.old ≤ P.faults port.new }
         ensures last { P.last port.new ≡ P.last port.old }
-        ensures visited { OnOk result (MadeWith N.did N.outgoing N.answers N.top (λ es. (may_write (line_of self.old.watch.lines conn) && (N.answers self.old.node conn).has_out) ≡ true → has_visit es conn ≡ true) (P.told port.old) (P.told port.new) self.old.watch self.new.watch self.old.node self.new.node) }
+        ensures visited { OnOk result (MadeWith N.did N.outgoing N.answers N.top (λ es. writes_now (line_of self.old.watch.lines conn) (N.answers self.old.node conn) ≡ true → has_visit es conn ≡ true) (P.told port.old) (P.told port.new) self.old.watch self.new.watch self.old.node self.new.node) }
     {
-        if self.may_write(conn) {
+        if self.writes_now(conn) {
             return self.write_once(port, conn);
         }
         Ok(())

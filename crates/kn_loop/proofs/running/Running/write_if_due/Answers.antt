@@ -1,12 +1,12 @@
-use Rattle.std.proofs.Common.{◌≡◌, ◌&&◌, true}
+use Rattle.std.proofs.Common.{◌≡◌, true}
 use Rattle.std.proofs.lemmas.Result.{on_ok_weaker}
 use Rattle.kn_loop.specs.Kept.{line_of}
-use Rattle.kn_loop.specs.Doing.{may_write}
+use Rattle.kn_loop.specs.Doing.{writes_now}
 use Rattle.kn_loop.specs.Visited.{has_visit}
 use Rattle.kn_loop.proofs.Visiting.{with_weaker}
 use Rattle.kn_loop.proofs.running.Running.write_if_due.Goals as goal
 
-pub returns-then-may_write-clause-visited : goal.returns-then-may_write-clause-visited
-returns-then-may_write-clause-visited g c = on_ok_weaker c.write_once.result
-    (with_weaker g.N.Node.did g.N.Node.outgoing g.N.Node.answers g.N.Node.top (λ es. has_visit es c.args.conn ≡ true) (λ es. (may_write (line_of c.args.self.now.watch.lines c.args.conn) && (g.N.Node.answers c.args.self.now.node c.args.conn).has_out) ≡ true → has_visit es c.args.conn ≡ true) _ _ _ _ _ _ (λ es h e. h))
+pub returns-then-writes_now-clause-visited : goal.returns-then-writes_now-clause-visited
+returns-then-writes_now-clause-visited g c = on_ok_weaker c.write_once.result
+    (with_weaker g.N.Node.did g.N.Node.outgoing g.N.Node.answers g.N.Node.top (λ es. has_visit es c.args.conn ≡ true) (λ es. writes_now (line_of c.args.self.now.watch.lines c.args.conn) (g.N.Node.answers c.args.self.now.node c.args.conn) ≡ true → has_visit es c.args.conn ≡ true) _ _ _ _ _ _ (λ es h e. h))
     c.write_once.ensures.visited
