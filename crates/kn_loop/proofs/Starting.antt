@@ -13,6 +13,9 @@ use Rattle.kn_loop.specs.Known.{Given, Begins, Starts, IsNew, IsAtHand, bare_wat
 use Rattle.kn_loop.specs.Calls.{Answers, unpaused}
 use Rattle.kn_loop.specs.Turns.{Steady, AtHand, is_active}
 
+no_copies : 0 ≤ 1
+no_copies = omega arith
+
 hand_none : (told : Option (List Entry)) → AtHand told (line_of [])
 hand_none None = tt
 hand_none (Some es) = λ c h. cc
@@ -51,6 +54,7 @@ hand_first n x lines (Some es) f hand = λ c h. open_first n c (n == c) x (lines
 bare_steady : (gates : Gates) (drain : ℕ) (course : Course) (top drawn : ℕ) (said : ℕ → Answers) (told : Option (List Entry)) → top ≤ drawn → Steady [] [] (bare_watch gates drain course) said top drawn told
 bare_steady gates drain course top drawn said told below = record {
   rests = record { covers = λ c h. h; busy = tt };
+  single = λ c. no_copies;
   asleep = refl;
   given = record { lines = λ c l h. cc; held = omega arith; below = below };
   hand = hand_none told;
@@ -65,6 +69,7 @@ starts_steady (Some n) gates drain course w top drawn said told starts fresh bel
     covers = λ c h. covers_first n c (n == c) (line_of w.lines c) (unpaused said c) refl (starts.lines c) (λ e. subst (λ k. (said k).shuts ≡ false) (first_conn n c e) fresh.2) h;
     busy = tt;
   };
+  single = λ c. no_copies;
   asleep = refl;
   given = record {
     lines = λ c l h. given_first n c top (n == c) (Some (new_line true true)) (line_of w.lines c) refl (starts.lines c) fresh.0 fresh.1 l h;

@@ -1,11 +1,11 @@
-ghost use Rattle.std.specs.Prelude.{true, false, ◌≡◌, ◌≤◌, ◌+◌, ◌<◌, ◌^◌, nat_lt, OnOk};
+ghost use Rattle.std.specs.Prelude.{true, false, ◌≡◌, ◌≤◌, ◌+◌, ◌<◌, ◌^◌, nat_lt, [], OnOk};
 ghost use Rattle.kn_loop.specs.Kept.{is_in, line_of};
 ghost use Rattle.kn_loop.specs.Calls.{Opened, WakesAlso, unpaused};
 ghost use Rattle.kn_loop.specs.Gates.{is_unsettled, gate_of};
 ghost use Rattle.kn_loop.specs.Known.{Given, Begins};
 ghost use Rattle.kn_loop.specs.Ran.{Made, connection_limit};
 ghost use Rattle.kn_loop.specs.Turns.{Covers};
-ghost use Rattle.kn_loop.specs.Visited.{MadeWith, AsksGate, AsksGates, has_accept};
+ghost use Rattle.kn_loop.specs.Visited.{MadeWith, AsksGate, AsksGates, Within, has_accept};
 
 use crate::Node;
 use crate::running::{CONNECTION_LIMIT, Running};
@@ -41,7 +41,7 @@ impl<N: Node + Drop> Running<N> {
         ensures covers { OnOk result (Covers (is_in self.new.awake) (line_of self.new.watch.lines) (unpaused (N.answers self.new.node))) }
         ensures given { OnOk result (Given self.new.watch (N.top self.new.node) (P.last port.new)) }
         ensures faults { P.faults port.old ≤ P.faults port.new }
-        ensures asked { OnOk result (MadeWith N.did N.outgoing N.answers N.top (λ es. has_accept es gate ≡ true) (P.told port.old) (P.told port.new) self.old.watch self.new.watch self.old.node self.new.node) }
+        ensures asked { OnOk result (MadeWith N.did N.outgoing N.answers N.top (λ es. (has_accept es gate ≡ true) × Within [] [] [] es) (P.told port.old) (P.told port.new) self.old.watch self.new.watch self.old.node self.new.node) }
     {
         let answer = port.accept(gate);
         self.watch.gates.note_accepted(gate, answer);
@@ -66,7 +66,7 @@ impl<N: Node + Drop> Running<N> {
         ensures covers { OnOk result (Covers (is_in self.new.awake) (line_of self.new.watch.lines) (unpaused (N.answers self.new.node))) }
         ensures given { OnOk result (Given self.new.watch (N.top self.new.node) (P.last port.new)) }
         ensures faults { P.faults port.old ≤ P.faults port.new }
-        ensures asked { OnOk result (MadeWith N.did N.outgoing N.answers N.top (λ es. has_accept es gate ≡ true) (P.told port.old) (P.told port.new) self.old.watch self.new.watch self.old.node self.new.node) }
+        ensures asked { OnOk result (MadeWith N.did N.outgoing N.answers N.top (λ es. (has_accept es gate ≡ true) × Within [] [] [] es) (P.told port.old) (P.told port.new) self.old.watch self.new.watch self.old.node self.new.node) }
     {
         let answer = port.accept(gate);
         self.watch.gates.note_accepted(gate, answer);
@@ -90,7 +90,7 @@ impl<N: Node + Drop> Running<N> {
         ensures covers { OnOk result (Covers (is_in self.new.awake) (line_of self.new.watch.lines) (unpaused (N.answers self.new.node))) }
         ensures given { OnOk result (Given self.new.watch (N.top self.new.node) (P.last port.new)) }
         ensures faults { P.faults port.old ≤ P.faults port.new }
-        ensures asked { OnOk result (MadeWith N.did N.outgoing N.answers N.top (λ es. has_accept es gate ≡ true) (P.told port.old) (P.told port.new) self.old.watch self.new.watch self.old.node self.new.node) }
+        ensures asked { OnOk result (MadeWith N.did N.outgoing N.answers N.top (λ es. (has_accept es gate ≡ true) × Within [] [] [] es) (P.told port.old) (P.told port.new) self.old.watch self.new.watch self.old.node self.new.node) }
     {
         if self.watch.held < CONNECTION_LIMIT {
             self.accept_free(port, gate)
@@ -108,7 +108,7 @@ impl<N: Node + Drop> Running<N> {
         ensures covers { OnOk result (Covers (is_in self.new.awake) (line_of self.new.watch.lines) (unpaused (N.answers self.new.node))) }
         ensures given { OnOk result (Given self.new.watch (N.top self.new.node) (P.last port.new)) }
         ensures faults { P.faults port.old ≤ P.faults port.new }
-        ensures asked { OnOk result (MadeWith N.did N.outgoing N.answers N.top (AsksGate N.takes_of self.old.watch.gates gate) (P.told port.old) (P.told port.new) self.old.watch self.new.watch self.old.node self.new.node) }
+        ensures asked { OnOk result (MadeWith N.did N.outgoing N.answers N.top (λ es. AsksGate N.takes_of self.old.watch.gates gate es × Within [] [] [] es) (P.told port.old) (P.told port.new) self.old.watch self.new.watch self.old.node self.new.node) }
     {
         if self.node.takes(gate) && self.watch.gates.at(gate).is_unsettled() {
             return self.accept_once(port, gate);
@@ -124,7 +124,7 @@ impl<N: Node + Drop> Running<N> {
         ensures covers { OnOk result (Covers (is_in self.new.awake) (line_of self.new.watch.lines) (unpaused (N.answers self.new.node))) }
         ensures given { OnOk result (Given self.new.watch (N.top self.new.node) (P.last port.new)) }
         ensures faults { P.faults port.old ≤ P.faults port.new }
-        ensures asked { OnOk result (MadeWith N.did N.outgoing N.answers N.top (AsksGates N.takes_of self.old.watch.gates) (P.told port.old) (P.told port.new) self.old.watch self.new.watch self.old.node self.new.node) }
+        ensures asked { OnOk result (MadeWith N.did N.outgoing N.answers N.top (λ es. AsksGates N.takes_of self.old.watch.gates es × Within [] [] [] es) (P.told port.old) (P.told port.new) self.old.watch self.new.watch self.old.node self.new.node) }
     {
         self.accept_if_due(port, Gate::Agents)?;
         self.accept_if_due(port, Gate::Clients)?;

@@ -2,8 +2,9 @@ ghost use Rattle.std.specs.Prelude.{true, false, ◌≡◌, ◌≤◌, ◌+◌, 
 ghost use Rattle.kn_loop.specs.Kept.{is_in, line_of};
 ghost use Rattle.kn_loop.specs.Calls.{Began, Wakes, WakesAlso, unpaused};
 ghost use Rattle.kn_loop.specs.Known.{Given, Begins};
-ghost use Rattle.kn_loop.specs.Ran.{Made, DialMade, DrainDid};
+ghost use Rattle.kn_loop.specs.Ran.{DialMade, DrainDid};
 ghost use Rattle.kn_loop.specs.Turns.{Covers};
+ghost use Rattle.kn_loop.specs.Visited.{MadeWith, Within};
 
 use crate::Node;
 use crate::running::Running;
@@ -71,7 +72,7 @@ impl<N: Node + Drop> Running<N> {
     fn dial_one<P: Port>(&mut self, port: &mut P) -> Result<bool, NoMemory>
         requires given { Given self.old.watch (N.top self.old.node) (P.last port.old) }
         requires covers { Covers (is_in self.old.awake) (line_of self.old.watch.lines) (unpaused (N.answers self.old.node)) }
-        ensures made { OnOk result (Made N.did N.outgoing N.answers N.top (P.told port.old) (P.told port.new) self.old.watch self.new.watch self.old.node self.new.node) }
+        ensures made { OnOk result (MadeWith N.did N.outgoing N.answers N.top (Within [] [] []) (P.told port.old) (P.told port.new) self.old.watch self.new.watch self.old.node self.new.node) }
         ensures covers { OnOk result (Covers (is_in self.new.awake) (line_of self.new.watch.lines) (unpaused (N.answers self.new.node))) }
         ensures given { OnOk result (Given self.new.watch (N.top self.new.node) (P.last port.new)) }
         ensures faults { P.faults port.old ≤ P.faults port.new }
@@ -90,7 +91,7 @@ impl<N: Node + Drop> Running<N> {
     pub(crate) fn dial_all<P: Port>(&mut self, port: &mut P) -> Result<(), NoMemory>
         requires given { Given self.old.watch (N.top self.old.node) (P.last port.old) }
         requires covers { Covers (is_in self.old.awake) (line_of self.old.watch.lines) (unpaused (N.answers self.old.node)) }
-        ensures made { OnOk result (Made N.did N.outgoing N.answers N.top (P.told port.old) (P.told port.new) self.old.watch self.new.watch self.old.node self.new.node) }
+        ensures made { OnOk result (MadeWith N.did N.outgoing N.answers N.top (Within [] [] []) (P.told port.old) (P.told port.new) self.old.watch self.new.watch self.old.node self.new.node) }
         ensures covers { OnOk result (Covers (is_in self.new.awake) (line_of self.new.watch.lines) (unpaused (N.answers self.new.node))) }
         ensures given { OnOk result (Given self.new.watch (N.top self.new.node) (P.last port.new)) }
         ensures faults { P.faults port.old ≤ P.faults port.new }

@@ -1,9 +1,9 @@
-ghost use Rattle.std.specs.Prelude.{false, true, ◌≡◌, ◌≤◌, ◌<◌, [], ◌∷◌, OnOk};
+ghost use Rattle.std.specs.Prelude.{false, true, ◌≡◌, ◌≤◌, ◌<◌, [], ◌∷◌, ◌++◌, OnOk};
 ghost use Rattle.kn_loop.specs.Calls.{unpaused};
-ghost use Rattle.kn_loop.specs.Kept.{is_in, line_of};
+ghost use Rattle.kn_loop.specs.Kept.{is_in, line_of, NoTwice};
 ghost use Rattle.kn_loop.specs.Known.{Given, Forgets};
-ghost use Rattle.kn_loop.specs.Ran.{Made};
 ghost use Rattle.kn_loop.specs.Turns.{is_due, Covers, CoversBut, AreBusy, Rests, NoneDue, AtHand};
+ghost use Rattle.kn_loop.specs.Visited.{MadeWith, Within};
 
 use crate::Node;
 use crate::running::Running;
@@ -16,7 +16,7 @@ impl<N: Node + Drop> Running<N> {
         requires due { is_due (line_of self.old.watch.lines conn) (N.answers self.old.node conn) ≡ true }
         requires given { Given self.old.watch (N.top self.old.node) (P.last port.old) }
         requires hand { AtHand (P.told port.old) (line_of self.old.watch.lines) }
-        ensures made { Made N.did N.outgoing N.answers N.top (P.told port.old) (P.told port.new) self.old.watch self.new.watch self.old.node self.new.node }
+        ensures made { MadeWith N.did N.outgoing N.answers N.top (Within [] [] []) (P.told port.old) (P.told port.new) self.old.watch self.new.watch self.old.node self.new.node }
         ensures forgets { Forgets conn self.old.watch self.new.watch }
         ensures node { self.new.node ≡ self.old.node }
         ensures awake { self.new.awake ≡ self.old.awake }
@@ -33,6 +33,8 @@ impl<N: Node + Drop> Running<N> {
         requires not_due { is_due (line_of self.old.watch.lines conn) (unpaused (N.answers self.old.node) conn) ≡ false }
         requires covers { CoversBut (is_in self.old.awake) (is_in (conn ∷ self.old.busy.items)) (line_of self.old.watch.lines) (unpaused (N.answers self.old.node)) }
         requires busy { AreBusy self.old.busy.items (line_of self.old.watch.lines) (unpaused (N.answers self.old.node)) }
+        requires apart { NoTwice (self.old.busy.items ++ conn ∷ self.old.awake) }
+        ensures apart { OnOk result (NoTwice (self.new.busy.items ++ self.new.awake)) }
         ensures covers { OnOk result (CoversBut (is_in self.new.awake) (is_in self.new.busy.items) (line_of self.new.watch.lines) (unpaused (N.answers self.new.node))) }
         ensures busy { OnOk result (AreBusy self.new.busy.items (line_of self.new.watch.lines) (unpaused (N.answers self.new.node))) }
         ensures node { self.new.node ≡ self.old.node }
@@ -52,7 +54,9 @@ impl<N: Node + Drop> Running<N> {
         requires hand { AtHand (P.told port.old) (line_of self.old.watch.lines) }
         requires covers { CoversBut (is_in self.old.awake) (is_in (conn ∷ self.old.busy.items)) (line_of self.old.watch.lines) (unpaused (N.answers self.old.node)) }
         requires busy { AreBusy self.old.busy.items (line_of self.old.watch.lines) (unpaused (N.answers self.old.node)) }
-        ensures made { OnOk result (Made N.did N.outgoing N.answers N.top (P.told port.old) (P.told port.new) self.old.watch self.new.watch self.old.node self.new.node) }
+        requires apart { NoTwice (self.old.busy.items ++ conn ∷ self.old.awake) }
+        ensures apart { OnOk result (NoTwice (self.new.busy.items ++ self.new.awake)) }
+        ensures made { OnOk result (MadeWith N.did N.outgoing N.answers N.top (Within [] [] []) (P.told port.old) (P.told port.new) self.old.watch self.new.watch self.old.node self.new.node) }
         ensures covers { OnOk result (CoversBut (is_in self.new.awake) (is_in self.new.busy.items) (line_of self.new.watch.lines) (unpaused (N.answers self.new.node))) }
         ensures busy { OnOk result (AreBusy self.new.busy.items (line_of self.new.watch.lines) (unpaused (N.answers self.new.node))) }
         ensures given { OnOk result (Given self.new.watch (N.top self.new.node) (P.last port.new)) }
@@ -75,13 +79,15 @@ impl<N: Node + Drop> Running<N> {
         requires hand { AtHand (P.told port.old) (line_of self.old.watch.lines) }
         requires covers { Covers (is_in self.old.awake) (line_of self.old.watch.lines) (unpaused (N.answers self.old.node)) }
         requires empty { self.old.busy.items ≡ [] }
-        ensures made { OnOk result (Made N.did N.outgoing N.answers N.top (P.told port.old) (P.told port.new) self.old.watch self.new.watch self.old.node self.new.node) }
+        ensures made { OnOk result (MadeWith N.did N.outgoing N.answers N.top (Within [] [] []) (P.told port.old) (P.told port.new) self.old.watch self.new.watch self.old.node self.new.node) }
+        ensures single { OnOk result (NoTwice self.new.busy.items) }
         ensures rests { OnOk result (Rests self.new.busy.items (line_of self.new.watch.lines) (unpaused (N.answers self.new.node))) }
         ensures asleep { OnOk result (self.new.awake ≡ []) }
         ensures given { OnOk result (Given self.new.watch (N.top self.new.node) (P.last port.new)) }
         ensures node { self.new.node ≡ self.old.node }
         ensures faults { P.faults port.old ≤ P.faults port.new }
     {
+        self.awake.holds();
         while let Some(conn) = self.awake.pop() {
             self.settle_one(port, conn)?;
         }
@@ -93,11 +99,13 @@ impl<N: Node + Drop> Running<N> {
         requires none { NoneDue (line_of self.old.watch.lines) (unpaused (N.answers self.old.node)) }
         requires covers { Covers (is_in self.old.awake) (line_of self.old.watch.lines) (unpaused (N.answers self.old.node)) }
         requires empty { self.old.busy.items ≡ [] }
+        ensures single { OnOk result (NoTwice self.new.busy.items) }
         ensures rests { OnOk result (Rests self.new.busy.items (line_of self.new.watch.lines) (unpaused (N.answers self.new.node))) }
         ensures asleep { OnOk result (self.new.awake ≡ []) }
         ensures node { self.new.node ≡ self.old.node }
         ensures watch { self.new.watch ≡ self.old.watch }
     {
+        self.awake.holds();
         while let Some(conn) = self.awake.pop() {
             self.keep_one(conn)?;
         }

@@ -1,11 +1,11 @@
 ghost use Rattle.std.specs.Prelude.{ℕ, true, false, ◌≡◌, ◌≤◌, ◌==◌, [], ◌++◌, length, take, drop, not, ◌&&◌, OnOk, IfOk, MatchResult};
 ghost use Rattle.kn_loop.specs.Calls.{unpaused};
-ghost use Rattle.kn_loop.specs.Kept.{is_in, line_of};
+ghost use Rattle.kn_loop.specs.Kept.{is_in, line_of, NoTwice};
 ghost use Rattle.kn_loop.specs.Gates.{is_unsettled, gate_of, are_gates_settled, gate_named, gates_named};
 ghost use Rattle.kn_loop.specs.Known.{Given, Names, known_of};
 ghost use Rattle.kn_loop.specs.Ran.{Made};
 ghost use Rattle.kn_loop.specs.Turns.{any_busy, AllSettled, WakesLines, Covers, Rests, Steady, Turned, IsTurn, TurnCounts, counted};
-ghost use Rattle.kn_loop.specs.Visited.{MadeWith, VisitsAll, AsksGates};
+ghost use Rattle.kn_loop.specs.Visited.{MadeWith, VisitsAll, VisitsOnce, AsksGates};
 ghost use Rattle.kn_loop.specs.Watch.{named_from, named_one};
 ghost use Rattle.kn_loop.specs.declared.turn.Turn.TheVariants as turn_is;
 ghost use Rattle.kn_port.specs.Answers.{WaitCounts};
@@ -40,6 +40,7 @@ impl<N: Node + Drop> Running<N> {
         requires settled { AllSettled N.takes_of self.old.watch (N.answers self.old.node) }
         requires steady { Steady self.old.busy.items self.old.awake self.old.watch (N.answers self.old.node) (N.top self.old.node) (P.last port.old) (P.told port.old) }
         ensures waited { IfOk result (λ answer. Turned N.did N.outgoing N.answers N.top N.to_dial N.takes_of (P.told port.old) (P.told port.new) self.old.watch self.new.watch self.old.node self.new.node answer) }
+        ensures single { OnOk result (NoTwice self.new.busy.items) }
         ensures rests { OnOk result (Rests self.new.busy.items (line_of self.new.watch.lines) (unpaused (N.answers self.new.node))) }
         ensures asleep { OnOk result (self.new.awake ≡ []) }
         ensures given { OnOk result (Given self.new.watch (N.top self.new.node) (P.last port.new)) }
@@ -79,6 +80,7 @@ impl<N: Node + Drop> Running<N> {
         requires rests { Rests self.old.busy.items (line_of self.old.watch.lines) (unpaused (N.answers self.old.node)) }
         ensures follows { OnOk result (Names self.old.woken self.old.watch self.new.watch) }
         ensures node { self.new.node ≡ self.old.node }
+        ensures single { OnOk result (NoTwice self.new.busy.items) }
         ensures rests { OnOk result (Rests self.new.busy.items (line_of self.new.watch.lines) (unpaused (N.answers self.new.node))) }
         ensures asleep { OnOk result (self.new.awake ≡ []) }
     {
@@ -129,11 +131,12 @@ impl<N: Node + Drop> Running<N> {
         requires steady { Steady self.old.busy.items self.old.awake self.old.watch (N.answers self.old.node) (N.top self.old.node) (P.last port.old) (P.told port.old) }
         ensures made { OnOk result (Made N.did N.outgoing N.answers N.top (P.told port.old) (P.told port.new) self.old.watch self.new.watch self.old.node self.new.node) }
         ensures dialled { OnOk result (N.to_dial self.new.node ≡ []) }
+        ensures single { OnOk result (NoTwice self.new.busy.items) }
         ensures rests { OnOk result (Rests self.new.busy.items (line_of self.new.watch.lines) (unpaused (N.answers self.new.node))) }
         ensures asleep { OnOk result (self.new.awake ≡ []) }
         ensures given { OnOk result (Given self.new.watch (N.top self.new.node) (P.last port.new)) }
         ensures faults { P.faults port.old ≤ P.faults port.new }
-        ensures served { OnOk result (MadeWith N.did N.outgoing N.answers N.top (λ es. VisitsAll N.did N.outgoing N.answers N.top (known_of self.old.watch) self.old.node self.new.node es × AsksGates N.takes_of self.old.watch.gates es) (P.told port.old) (P.told port.new) self.old.watch self.new.watch self.old.node self.new.node) }
+        ensures served { OnOk result (MadeWith N.did N.outgoing N.answers N.top (λ es. VisitsAll N.did N.outgoing N.answers N.top (known_of self.old.watch) self.old.node self.new.node es × AsksGates N.takes_of self.old.watch.gates es × VisitsOnce es) (P.told port.old) (P.told port.new) self.old.watch self.new.watch self.old.node self.new.node) }
     {
         let mut batch = self.take_batch();
         self.visit_all(port, batch.as_slice())?;
@@ -148,6 +151,7 @@ impl<N: Node + Drop> Running<N> {
     fn go_on<P: Port>(&mut self, port: &mut P) -> Result<Waited, NoMemory>
         requires steady { Steady self.old.busy.items self.old.awake self.old.watch (N.answers self.old.node) (N.top self.old.node) (P.last port.old) (P.told port.old) }
         ensures turned { IfOk result (λ answer. Turned N.did N.outgoing N.answers N.top N.to_dial N.takes_of (P.told port.old) (P.told port.new) self.old.watch self.new.watch self.old.node self.new.node answer) }
+        ensures single { OnOk result (NoTwice self.new.busy.items) }
         ensures rests { OnOk result (Rests self.new.busy.items (line_of self.new.watch.lines) (unpaused (N.answers self.new.node))) }
         ensures asleep { OnOk result (self.new.awake ≡ []) }
         ensures given { OnOk result (Given self.new.watch (N.top self.new.node) (P.last port.new)) }

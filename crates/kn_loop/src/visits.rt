@@ -5,7 +5,7 @@ ghost use Rattle.kn_loop.specs.Kept.{is_in, line_of};
 ghost use Rattle.kn_loop.specs.Known.{known_of};
 ghost use Rattle.kn_loop.specs.Ran.{Made, ReadDid, WroteDid, DialEndDid, leads_to_server};
 ghost use Rattle.kn_loop.specs.Turns.{is_busy, Touches, SameConns, Visits, Covers, CoversBut, AreAllGiven, take_got, take_took};
-ghost use Rattle.kn_loop.specs.Visited.{MadeWith, VisitsOf, has_visit};
+ghost use Rattle.kn_loop.specs.Visited.{MadeWith, VisitsOf, Within, has_visit};
 ghost use Rattle.kn_port.specs.Answers.{GotFits, TookFits};
 ghost use Rattle.kn_port.specs.Journal.{read_entries, write_entries, dial_end_entries};
 
@@ -52,7 +52,7 @@ impl<N: Node + Drop> Running<N> {
         ensures top { OnOk result (N.top self.new.node ≡ N.top self.old.node) }
         ensures faults { P.faults port.old ≤ P.faults port.new }
         ensures last { P.last port.new ≡ P.last port.old }
-        ensures visited { OnOk result (MadeWith N.did N.outgoing N.answers N.top (λ es. has_visit es conn ≡ true) (P.told port.old) (P.told port.new) self.old.watch self.new.watch self.old.node self.new.node) }
+        ensures visited { OnOk result (MadeWith N.did N.outgoing N.answers N.top (λ es. (has_visit es conn ≡ true) × Within [] (conn ∷ []) [] es) (P.told port.old) (P.told port.new) self.old.watch self.new.watch self.old.node self.new.node) }
     {
         let got = port.read(conn, &mut self.room);
         self.watch.lines.note_read(conn, got)?;
@@ -90,7 +90,7 @@ impl<N: Node + Drop> Running<N> {
         ensures top { OnOk result (N.top self.new.node ≡ N.top self.old.node) }
         ensures faults { P.faults port.old ≤ P.faults port.new }
         ensures last { P.last port.new ≡ P.last port.old }
-        ensures visited { OnOk result (MadeWith N.did N.outgoing N.answers N.top (λ es. has_visit es conn ≡ true) (P.told port.old) (P.told port.new) self.old.watch self.new.watch self.old.node self.new.node) }
+        ensures visited { OnOk result (MadeWith N.did N.outgoing N.answers N.top (λ es. (has_visit es conn ≡ true) × Within [] [] (conn ∷ []) es) (P.told port.old) (P.told port.new) self.old.watch self.new.watch self.old.node self.new.node) }
     {
         let took = port.write(conn, self.node.out(conn));
         self.watch.lines.note_write(conn, took)?;
@@ -158,7 +158,7 @@ impl<N: Node + Drop> Running<N> {
         ensures top { OnOk result (N.top self.new.node ≡ N.top self.old.node) }
         ensures faults { P.faults port.old ≤ P.faults port.new }
         ensures last { P.last port.new ≡ P.last port.old }
-        ensures visited { OnOk result (MadeWith N.did N.outgoing N.answers N.top (λ es. has_visit es conn ≡ true) (P.told port.old) (P.told port.new) self.old.watch self.new.watch self.old.node self.new.node) }
+        ensures visited { OnOk result (MadeWith N.did N.outgoing N.answers N.top (λ es. (has_visit es conn ≡ true) × Within (conn ∷ []) [] [] es) (P.told port.old) (P.told port.new) self.old.watch self.new.watch self.old.node self.new.node) }
     {
         let end = port.dial_end(conn);
         let is_server = self.watch.lines.leads_to_server(conn);
@@ -210,7 +210,7 @@ impl<N: Node + Drop> Running<N> {
         ensures top { OnOk result (N.top self.new.node ≡ N.top self.old.node) }
         ensures faults { P.faults port.old ≤ P.faults port.new }
         ensures last { P.last port.new ≡ P.last port.old }
-        ensures visited { OnOk result (MadeWith N.did N.outgoing N.answers N.top (λ es. reads_now (line_of self.old.watch.lines conn) (N.answers self.old.node conn) ≡ true → has_visit es conn ≡ true) (P.told port.old) (P.told port.new) self.old.watch self.new.watch self.old.node self.new.node) }
+        ensures visited { OnOk result (MadeWith N.did N.outgoing N.answers N.top (λ es. (reads_now (line_of self.old.watch.lines conn) (N.answers self.old.node conn) ≡ true → has_visit es conn ≡ true) × Within [] (conn ∷ []) [] es) (P.told port.old) (P.told port.new) self.old.watch self.new.watch self.old.node self.new.node) }
         ensures idle { OnOk result (reads_now (line_of self.old.watch.lines conn) (N.answers self.old.node conn) ≡ false → (self.new.watch ≡ self.old.watch) × (self.new.node ≡ self.old.node)) }
     {
         if self.reads_now(conn) {
@@ -230,7 +230,7 @@ impl<N: Node + Drop> Running<N> {
         ensures top { OnOk result (N.top self.new.node ≡ N.top self.old.node) }
         ensures faults { P.faults port.old ≤ P.faults port.new }
         ensures last { P.last port.new ≡ P.last port.old }
-        ensures visited { OnOk result (MadeWith N.did N.outgoing N.answers N.top (λ es. writes_now (line_of self.old.watch.lines conn) (N.answers self.old.node conn) ≡ true → has_visit es conn ≡ true) (P.told port.old) (P.told port.new) self.old.watch self.new.watch self.old.node self.new.node) }
+        ensures visited { OnOk result (MadeWith N.did N.outgoing N.answers N.top (λ es. (writes_now (line_of self.old.watch.lines conn) (N.answers self.old.node conn) ≡ true → has_visit es conn ≡ true) × Within [] [] (conn ∷ []) es) (P.told port.old) (P.told port.new) self.old.watch self.new.watch self.old.node self.new.node) }
     {
         if self.writes_now(conn) {
             return self.write_once(port, conn);
@@ -249,7 +249,7 @@ impl<N: Node + Drop> Running<N> {
         ensures top { OnOk result (N.top self.new.node ≡ N.top self.old.node) }
         ensures faults { P.faults port.old ≤ P.faults port.new }
         ensures last { P.last port.new ≡ P.last port.old }
-        ensures visited { OnOk result (MadeWith N.did N.outgoing N.answers N.top (λ es. may_ask (line_of self.old.watch.lines conn) ≡ false → is_busy (line_of self.old.watch.lines conn) (N.answers self.old.node conn) ≡ true → has_visit es conn ≡ true) (P.told port.old) (P.told port.new) self.old.watch self.new.watch self.old.node self.new.node) }
+        ensures visited { OnOk result (MadeWith N.did N.outgoing N.answers N.top (λ es. (may_ask (line_of self.old.watch.lines conn) ≡ false → is_busy (line_of self.old.watch.lines conn) (N.answers self.old.node conn) ≡ true → has_visit es conn ≡ true) × Within [] (conn ∷ []) (conn ∷ []) es) (P.told port.old) (P.told port.new) self.old.watch self.new.watch self.old.node self.new.node) }
     {
         self.read_if_due(port, conn)?;
         self.write_if_due(port, conn)?;
@@ -267,7 +267,7 @@ impl<N: Node + Drop> Running<N> {
         ensures top { OnOk result (N.top self.new.node ≡ N.top self.old.node) }
         ensures faults { P.faults port.old ≤ P.faults port.new }
         ensures last { P.last port.new ≡ P.last port.old }
-        ensures visited { OnOk result (MadeWith N.did N.outgoing N.answers N.top (λ es. is_busy (line_of self.old.watch.lines conn) (N.answers self.old.node conn) ≡ true → has_visit es conn ≡ true) (P.told port.old) (P.told port.new) self.old.watch self.new.watch self.old.node self.new.node) }
+        ensures visited { OnOk result (MadeWith N.did N.outgoing N.answers N.top (λ es. (is_busy (line_of self.old.watch.lines conn) (N.answers self.old.node conn) ≡ true → has_visit es conn ≡ true) × Within (conn ∷ []) (conn ∷ []) (conn ∷ []) es) (P.told port.old) (P.told port.new) self.old.watch self.new.watch self.old.node self.new.node) }
     {
         if self.may_ask(conn) {
             self.ask_once(port, conn)
@@ -287,7 +287,7 @@ impl<N: Node + Drop> Running<N> {
         ensures top { OnOk result (N.top self.new.node ≡ N.top self.old.node) }
         ensures faults { P.faults port.old ≤ P.faults port.new }
         ensures last { P.last port.new ≡ P.last port.old }
-        ensures visited { OnOk result (MadeWith N.did N.outgoing N.answers N.top (λ es. is_busy (line_of self.old.watch.lines conn) (N.answers self.old.node conn) ≡ true → has_visit es conn ≡ true) (P.told port.old) (P.told port.new) self.old.watch self.new.watch self.old.node self.new.node) }
+        ensures visited { OnOk result (MadeWith N.did N.outgoing N.answers N.top (λ es. (is_busy (line_of self.old.watch.lines conn) (N.answers self.old.node conn) ≡ true → has_visit es conn ≡ true) × Within (conn ∷ []) (conn ∷ []) (conn ∷ []) es) (P.told port.old) (P.told port.new) self.old.watch self.new.watch self.old.node self.new.node) }
     {
         self.serve(port, conn)?;
         self.stay_awake(conn)?;
@@ -306,7 +306,7 @@ impl<N: Node + Drop> Running<N> {
         ensures top { OnOk result (N.top self.new.node ≡ N.top self.old.node) }
         ensures faults { P.faults port.old ≤ P.faults port.new }
         ensures last { P.last port.new ≡ P.last port.old }
-        ensures visited { OnOk result (MadeWith N.did N.outgoing N.answers N.top (VisitsOf N.did N.outgoing N.answers N.top (is_in batch.now) (known_of self.old.watch) self.old.node self.new.node) (P.told port.old) (P.told port.new) self.old.watch self.new.watch self.old.node self.new.node) }
+        ensures visited { OnOk result (MadeWith N.did N.outgoing N.answers N.top (λ es. VisitsOf N.did N.outgoing N.answers N.top (is_in batch.now) (known_of self.old.watch) self.old.node self.new.node es × Within batch.now batch.now batch.now es) (P.told port.old) (P.told port.new) self.old.watch self.new.watch self.old.node self.new.node) }
     {
         let mut rest = batch;
         while let Some((first, after)) = rest.split_first() {
