@@ -1,18 +1,17 @@
 -- Who is awake, and who is left to visit: what each part of a turn keeps of it.
-use Rattle.std.proofs.Common.{◌≡◌, ℕ, ◌==◌, ◌⊎◌, inl, inr, Bool, true, false, ◌||◌, ◌&&◌, List, [], ◌∷◌, ◌++◌, length, take, drop, None, Some, sym, refl, ap, ◌∙◌, subst, arith}
+use Rattle.std.proofs.Common.{◌≡◌, ℕ, ◌==◌, ◌⊎◌, inl, inr, Bool, true, false, not, ◌||◌, ◌&&◌, List, [], ◌∷◌, ◌++◌, length, take, drop, None, Some, sym, refl, ap, ◌∙◌, subst, arith}
 use Rattle.std.specs.Prelude.{Option, is_some, if◌then◌else◌}
 use Rattle.std.specs.Ordering.{nat_cmp}
 use Rattle.std.specs.BTreeMap.{is_at}
 use Rattle.std.proofs.lemmas.Bool.Decides.{nat_tests}
 use Rattle.std.proofs.lemmas.List.{take-append-drop}
-use Rattle.std.proofs.Math.Dec.{eqb-suc-zero}
 use Rattle.kn_port.specs.declared.names.Gate.{Gate}
 use Rattle.kn_loop.specs.declared.line.Line.{Line}
 use Rattle.kn_loop.specs.declared.watch.Watch.{Watch}
 use Rattle.kn_loop.specs.Kept.{is_in, line_of}
 use Rattle.kn_loop.specs.Gates.{are_gates_settled}
-use Rattle.kn_loop.specs.Calls.{Answers, Wakes, WakesAlso}
-use Rattle.kn_loop.specs.Turns.{is_busy, is_due, is_active, Covers, CoversBut, Visits, Touches, SameConns, WakesLines, NoneDue, AreBusy, AreAllGiven, Rests, AllSettled}
+use Rattle.kn_loop.specs.Calls.{Answers, Wakes, WakesAlso, unpaused}
+use Rattle.kn_loop.specs.Turns.{is_busy, any_busy, is_due, is_active, Covers, CoversBut, Visits, Touches, SameConns, WakesLines, NoneDue, AreBusy, AreAllGiven, Rests, AllSettled}
 use Rattle.kn_loop.proofs.Making.{or_false}
 
 -- ---- who is awake
@@ -100,13 +99,12 @@ covers_after n ns a0 a1 l0 l1 s0 s1 cov vis c busy = elim (vis.1 c busy) [
 ]
 
 -- after a wait, a connection of which something else is known now is awake
-woken_at : (b : Bool) (l0 l1 : Option Line) (s : Answers) (awake x : Bool) → awake ≡ x → is_active l0 s ≡ false → (awake ≡ false → l1 ≡ l0) → is_active l1 s ≡ true → awake ≡ true
-woken_at b l0 l1 s awake true e f same h = e
-woken_at b l0 l1 s awake false e f same h = let k : is_active l0 s ≡ true = subst (λ l. is_active l s ≡ true) (same e) h in cc
+woken_at : (a0 a1 x : Bool) (l0 l1 : Option Line) (s : Answers) → a1 ≡ x → (a0 ≡ true → a1 ≡ true) → (a1 ≡ false → l1 ≡ l0) → (is_active l0 s ≡ true → a0 ≡ true) → is_active l1 s ≡ true → a1 ≡ true
+woken_at a0 a1 true l0 l1 s e grows same cov h = e
+woken_at a0 a1 false l0 l1 s e grows same cov h = grows (cov (subst (λ l. is_active l s ≡ true) (same e) h))
 
-pub covers_woken : (awake0 awake1 : ℕ → Bool) (l0 l1 : ℕ → Option Line) (s : ℕ → Answers) → ((c : ℕ) → is_busy (l0 c) (s c) ≡ false) → NoneDue l0 s → WakesLines awake0 awake1 l0 l1 → Covers awake1 l1 s
-covers_woken awake0 awake1 l0 l1 s settled none wakes c h =
-    woken_at true (l0 c) (l1 c) (s c) (awake1 c) (awake1 c) refl (or_false (is_busy (l0 c) (s c)) (is_due (l0 c) (s c)) (settled c) (none c)) (wakes c).1 h
+pub covers_woken : (awake0 awake1 : ℕ → Bool) (l0 l1 : ℕ → Option Line) (s : ℕ → Answers) → Covers awake0 l0 s → WakesLines awake0 awake1 l0 l1 → Covers awake1 l1 s
+covers_woken awake0 awake1 l0 l1 s cov wakes c h = woken_at (awake0 c) (awake1 c) (awake1 c) (l0 c) (l1 c) (s c) refl (wakes c).0 (wakes c).1 (cov c) h
 
 pub covers_all : (awake : ℕ → Bool) (l : ℕ → Option Line) (s : ℕ → Answers) → CoversBut awake (is_in []) l s → Covers awake l s
 covers_all awake l s cov c h = elim (cov c h) [
@@ -217,6 +215,32 @@ busy_shut (m ∷ ms) n l0 l1 s due lines p =
     let same : l0 m ≡ l1 m = sym (line_off n m None (l0 m) (l1 m) (lines m) (other_at n m (n == m) l0 s refl due p.1)) in
     (subst (λ l. is_busy l (s m) ≡ true) same p.0, subst (λ l. is_due l (s m) ≡ false) same p.1, busy_shut ms n l0 l1 s due lines p.2)
 
+-- ---- as if the bytes of each were wanted
+wanted_at : (failed dialling ended reads writes asked wants out : Bool)
+    → not (if failed then true else if dialling then reads || not asked else (ended || reads || not wants) && (writes || not out)) ≡ true
+    → not (if failed then true else if dialling then reads || not asked else (ended || reads || not true) && (writes || not out)) ≡ true
+wanted_at failed dialling ended reads writes asked true out h = h
+wanted_at true dialling ended reads writes asked false out h = h
+wanted_at false true ended reads writes asked false out h = h
+wanted_at false false true reads writes asked false out h = h
+wanted_at false false false true writes asked false out h = h
+wanted_at false false false false writes asked false out h = refl
+
+pub busy_unpaused : (l : Option Line) (a : Answers) → is_busy l a ≡ true → is_busy l (record a { wants = true }) ≡ true
+busy_unpaused None a h = cc
+busy_unpaused (Some l) a h = wanted_at l.failed l.dialling l.ended l.read_waits l.write_waits l.asked a.wants a.has_out h
+
+due_unpaused : (l : Option Line) (a : Answers) → is_due l (record a { wants = true }) ≡ is_due l a
+due_unpaused None a = refl
+due_unpaused (Some l) a = refl
+
+pub none_due_paused : (l : ℕ → Option Line) (s : ℕ → Answers) → NoneDue l (unpaused s) → NoneDue l s
+none_due_paused l s none c = sym (due_unpaused (l c) (s c)) ∙ none c
+
+-- who has something to do has it too where all is wanted
+pub covers_paused : (a : ℕ → Bool) (l : ℕ → Option Line) (s : ℕ → Answers) → Covers a l (unpaused s) → (c : ℕ) → is_busy (l c) (s c) ≡ true → a c ≡ true
+covers_paused a l s cov c b = cov c (or_first (is_busy (l c) (unpaused s c)) (is_due (l c) (unpaused s c)) (busy_unpaused (l c) (s c) b))
+
 -- ---- between turns
 not_due_in : (ns : List ℕ) (c : ℕ) (l : ℕ → Option Line) (s : ℕ → Answers) → AreBusy ns l s → is_in ns c ≡ true → is_due (l c) (s c) ≡ false
 not_due_in [] c l s p h = cc
@@ -255,23 +279,36 @@ idle_at false x f e = refl
 no_false : false ≡ true → ⊥
 no_false h = cc
 
-pub all_settled : (ns : List ℕ) (takes : Gate → Bool) (w : Watch) (s : ℕ → Answers) → Rests ns (line_of w.lines) s → ((length ns == 0) && are_gates_settled takes w.gates) ≡ true → AllSettled takes w s × (ns ≡ [])
-all_settled [] takes w s r h = (
-  (
-    λ c. idle_at (is_busy (line_of w.lines c) (s c)) (is_in [] c) (λ b. r.covers c (or_first (is_busy (line_of w.lines c) (s c)) (is_due (line_of w.lines c) (s c)) b)) refl,
-    and_right true (are_gates_settled takes w.gates) h,
-  ),
-  refl,
-)
-all_settled (n ∷ ns) takes w s r h = absurd (some_left ns (and_left (length (n ∷ ns) == 0) (are_gates_settled takes w.gates) h)) where
-  some_left : (ms : List ℕ) → (length (n ∷ ms) == 0) ≡ true → ⊥
-  some_left ms e = no_false (sym (eqb-suc-zero (length ms)) ∙ e)
+not_true : (b : Bool) → not b ≡ true → b ≡ false
+not_true true h = cc
+not_true false h = refl
 
-pub not_settled : (ns : List ℕ) (takes : Gate → Bool) (w : Watch) (s : ℕ → Answers) → AreBusy ns (line_of w.lines) s → ((length ns == 0) && are_gates_settled takes w.gates) ≡ false → AllSettled takes w s → ⊥
-not_settled [] takes w s p e all = open_gate (are_gates_settled takes w.gates) e all.1 where
-  open_gate : (b : Bool) → b ≡ false → b ≡ true → ⊥
-  open_gate b f g = let no : true ≡ false = sym g ∙ f in cc
-not_settled (n ∷ ns) takes w s p e all = let no : true ≡ false = sym p.0 ∙ all.0 n in cc
+any_true : (ns : List ℕ) (c : ℕ) (l : ℕ → Option Line) (s : ℕ → Answers) → is_in ns c ≡ true → is_busy (l c) (s c) ≡ true → any_busy ns l s ≡ true
+any_true [] c l s h b = cc
+any_true (n ∷ ns) c l s h b = elim (or_cases (is_at (nat_cmp c) n) (is_in ns c) h) [
+  | inl e ↦ or_first (is_busy (l n) (s n)) (any_busy ns l s) (subst (λ k. is_busy (l k) (s k) ≡ true) (sym (key_conn n c e)) b)
+  | inr d ↦ or_second (is_busy (l n) (s n)) (any_busy ns l s) (any_true ns c l s d b)
+]
+
+pub all_settled : (ns : List ℕ) (takes : Gate → Bool) (w : Watch) (s : ℕ → Answers) → Rests ns (line_of w.lines) (unpaused s) → (not (any_busy ns (line_of w.lines) s) && are_gates_settled takes w.gates) ≡ true → AllSettled takes w s
+all_settled ns takes w s r h = (
+  λ c. idle_at (is_busy (line_of w.lines c) (s c)) (any_busy ns (line_of w.lines) s)
+      (λ b. any_true ns c (line_of w.lines) s (covers_paused (is_in ns) (line_of w.lines) s r.covers c b) b)
+      (not_true (any_busy ns (line_of w.lines) s) (and_left (not (any_busy ns (line_of w.lines) s)) (are_gates_settled takes w.gates) h)),
+  and_right (not (any_busy ns (line_of w.lines) s)) (are_gates_settled takes w.gates) h,
+)
+
+none_busy : (ns : List ℕ) (l : ℕ → Option Line) (s : ℕ → Answers) → ((c : ℕ) → is_busy (l c) (s c) ≡ false) → any_busy ns l s ≡ false
+none_busy [] l s f = refl
+none_busy (n ∷ ns) l s f = or_false (is_busy (l n) (s n)) (any_busy ns l s) (f n) (none_busy ns l s f)
+
+both_settled : (b x : Bool) → b ≡ false → x ≡ true → (not b && x) ≡ true
+both_settled true x e f = cc
+both_settled false x e f = f
+
+pub not_settled : (ns : List ℕ) (takes : Gate → Bool) (w : Watch) (s : ℕ → Answers) → (not (any_busy ns (line_of w.lines) s) && are_gates_settled takes w.gates) ≡ false → AllSettled takes w s → ⊥
+not_settled ns takes w s e all =
+    no_false (sym e ∙ both_settled (any_busy ns (line_of w.lines) s) (are_gates_settled takes w.gates) (none_busy ns (line_of w.lines) s all.0) all.1)
 
 -- ---- the order of visits
 pub in_split : (xs ys : List ℕ) (c : ℕ) → is_in (xs ++ ys) c ≡ true → (is_in xs c ≡ true) ⊎ (is_in ys c ≡ true)
@@ -281,6 +318,25 @@ in_split (x ∷ xs) ys c h = elim (or_cases (is_at (nat_cmp c) x) (is_in (xs ++ 
   | inr d ↦ elim (in_split xs ys c d) [
     | inl a ↦ inl (or_second (is_at (nat_cmp c) x) (is_in xs c) a)
     | inr b ↦ inr b
+  ]
+]
+
+conn_key : (n c : ℕ) → is_at (nat_cmp c) n ≡ true → (n == c) ≡ true
+conn_key n c e = grind (arith, nat_tests)
+
+own_key : (n c : ℕ) → is_in (n ∷ []) c ≡ true → (n == c) ≡ true
+own_key n c h = elim (or_cases (is_at (nat_cmp c) n) false h) [
+  | inl e ↦ conn_key n c e
+  | inr d ↦ cc
+]
+
+-- the last that is left is awake now
+pub covers_moved : (n : ℕ) (ns : List ℕ) (a0 a1 : ℕ → Bool) (l : ℕ → Option Line) (s : ℕ → Answers) → CoversBut a0 (is_in (ns ++ n ∷ [])) l s → ((c : ℕ) → a1 c ≡ (n == c || a0 c)) → CoversBut a1 (is_in ns) l s
+covers_moved n ns a0 a1 l s cov added c h = elim (cov c h) [
+  | inl a ↦ inl (added c ∙ or_second (n == c) (a0 c) a)
+  | inr b ↦ elim (in_split ns (n ∷ []) c b) [
+    | inl p ↦ inr p
+    | inr q ↦ inl (added c ∙ or_first (n == c) (a0 c) (own_key n c q))
   ]
 ]
 

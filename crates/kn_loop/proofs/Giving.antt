@@ -202,4 +202,4 @@ pub hand_turned : {N : Type 0} (did : N → Call → N → Type 0) (outgoing : N
     (t0 t1 : Option (List Entry)) (w0 w1 : Watch) (n0 n1 : N) (waits : Waited) → Turned did outgoing said top to_dial takes t0 t1 w0 w1 n0 n1 waits
     → AtHand t0 (line_of w0.lines) → AtHand t1 (line_of w1.lines)
 hand_turned did outgoing said top to_dial takes t0 t1 w0 w1 n0 n1 waits (WaitedOnce names answer settled told follows same) h = hand_after t0 t1 (entry.Wait names answer ∷ []) (line_of w0.lines) (line_of w1.lines) told follows.lines h
-hand_turned did outgoing said top to_dial takes t0 t1 w0 w1 n0 n1 waits (Acted open_work made visits asks dialled none) h = hand_after t0 t1 made.entries (line_of w0.lines) (line_of w1.lines) made.told made.follows.lines h
+hand_turned did outgoing said top to_dial takes t0 t1 w0 w1 n0 n1 waits (Acted open_work made visits asks once dialled none) h = hand_after t0 t1 made.entries (line_of w0.lines) (line_of w1.lines) made.told made.follows.lines h

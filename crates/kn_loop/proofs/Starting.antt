@@ -10,8 +10,11 @@ use Rattle.kn_loop.specs.declared.watch.Watch.{Watch}
 use Rattle.kn_loop.specs.Kept.{line_of, is_in}
 use Rattle.kn_loop.specs.Watch.{new_line}
 use Rattle.kn_loop.specs.Known.{Given, Begins, Starts, IsNew, IsAtHand, bare_watch}
-use Rattle.kn_loop.specs.Calls.{Answers}
+use Rattle.kn_loop.specs.Calls.{Answers, unpaused}
 use Rattle.kn_loop.specs.Turns.{Steady, AtHand, is_active}
+
+no_copies : 0 ≤ 1
+no_copies = omega arith
 
 hand_none : (told : Option (List Entry)) → AtHand told (line_of [])
 hand_none None = tt
@@ -51,6 +54,7 @@ hand_first n x lines (Some es) f hand = λ c h. open_first n c (n == c) x (lines
 bare_steady : (gates : Gates) (drain : ℕ) (course : Course) (top drawn : ℕ) (said : ℕ → Answers) (told : Option (List Entry)) → top ≤ drawn → Steady [] [] (bare_watch gates drain course) said top drawn told
 bare_steady gates drain course top drawn said told below = record {
   rests = record { covers = λ c h. h; busy = tt };
+  single = λ c. no_copies;
   asleep = refl;
   given = record { lines = λ c l h. cc; held = omega arith; below = below };
   hand = hand_none told;
@@ -62,9 +66,10 @@ starts_steady None gates drain course w top drawn said told starts fresh below h
     subst (λ v. Steady [] [] v said top drawn told) (sym starts) (bare_steady gates drain course top drawn said told below)
 starts_steady (Some n) gates drain course w top drawn said told starts fresh below hand = record {
   rests = record {
-    covers = λ c h. covers_first n c (n == c) (line_of w.lines c) (said c) refl (starts.lines c) (λ e. subst (λ k. (said k).shuts ≡ false) (first_conn n c e) fresh.2) h;
+    covers = λ c h. covers_first n c (n == c) (line_of w.lines c) (unpaused said c) refl (starts.lines c) (λ e. subst (λ k. (said k).shuts ≡ false) (first_conn n c e) fresh.2) h;
     busy = tt;
   };
+  single = λ c. no_copies;
   asleep = refl;
   given = record {
     lines = λ c l h. given_first n c top (n == c) (Some (new_line true true)) (line_of w.lines c) refl (starts.lines c) fresh.0 fresh.1 l h;

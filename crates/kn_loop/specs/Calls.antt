@@ -24,6 +24,10 @@ pub record Answers : Type 0 where
   pub has_out : Bool
   pub shuts : Bool
 
+-- what it says, as if the bytes of each connection were wanted
+abbrev pub unpaused : (ℕ → Answers) → ℕ → Answers
+unpaused said c = record (said c) { wants = true }
+
 -- A call changes what the node says of a connection only where it wakes it, and puts none to sleep.
 abbrev pub Wakes : (ℕ → Bool) → (ℕ → Bool) → (ℕ → Answers) → (ℕ → Answers) → Type 0
 Wakes awake0 awake1 said0 said1 = (c : ℕ) → (awake0 c ≡ true → awake1 c ≡ true) × (awake1 c ≡ false → said1 c ≡ said0 c)

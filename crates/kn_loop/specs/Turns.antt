@@ -18,13 +18,13 @@ use Rattle.kn_loop.specs.declared.watch.Watch.{Watch}
 use Rattle.kn_loop.specs.declared.course.Course.{Course}
 use Rattle.kn_loop.specs.declared.turn.Turn.{Turn}
 use Rattle.kn_loop.specs.declared.turn.Turn.TheVariants as turn
-pub use Rattle.kn_loop.specs.Doing.{is_busy, is_due, is_active}
-use Rattle.kn_loop.specs.Kept.{line_of, is_in}
+pub use Rattle.kn_loop.specs.Doing.{is_busy, any_busy, is_due, is_active}
+use Rattle.kn_loop.specs.Kept.{line_of, is_in, NoTwice}
 use Rattle.kn_loop.specs.Gates.{are_gates_settled}
-use Rattle.kn_loop.specs.Calls.{Answers, Call}
+use Rattle.kn_loop.specs.Calls.{Answers, Call, unpaused}
 use Rattle.kn_loop.specs.Known.{Given, Follows, known_of}
 use Rattle.kn_loop.specs.Ran.{Made}
-use Rattle.kn_loop.specs.Visited.{VisitsAll, AsksGates}
+use Rattle.kn_loop.specs.Visited.{VisitsAll, VisitsOnce, AsksGates}
 
 -- nothing is to be done but to wait
 abbrev pub AllSettled : (Gate → Bool) → Watch → (ℕ → Answers) → Type 0
@@ -62,7 +62,7 @@ abbrev pub AreBusy : List ℕ → (ℕ → Option Line) → (ℕ → Answers) �
 AreBusy [] lines said = ⊤
 AreBusy (n ∷ ns) lines said = (is_busy (lines n) (said n) ≡ true) × (is_due (lines n) (said n) ≡ false) × AreBusy ns lines said
 
--- Between turns: those that are to be visited, and nobody else, are in the list.
+-- Those at which something is to be done, and nobody else, are in the list; none is to be shut.
 pub record Rests (batch : List ℕ) (lines : ℕ → Option Line) (said : ℕ → Answers) : Type 0 where
   pub covers : Covers (is_in batch) lines said
   pub busy : AreBusy batch lines said
@@ -80,10 +80,11 @@ abbrev pub AtHand : Option (List Entry) → (ℕ → Option Line) → Type 0
 AtHand None lines = ⊤
 AtHand (Some es) lines = (c : ℕ) → is_some (lines c) ≡ true → is_open es c ≡ true
 
--- What holds between turns: those that are to be visited are in the list, none is to be shut, nobody is awake, and
--- what is known was given.
+-- What holds between turns: those at which something would be to do if the bytes of each were wanted are in the list,
+-- none of them twice; none is to be shut, nobody is awake, and what is known was given.
 pub record Steady (batch awake : List ℕ) (w : Watch) (said : ℕ → Answers) (greatest drawn : ℕ) (told : Option (List Entry)) : Type 0 where
-  pub rests : Rests batch (line_of w.lines) said
+  pub rests : Rests batch (line_of w.lines) (unpaused said)
+  pub single : NoTwice batch
   pub asleep : awake ≡ []
   pub given : Given w greatest drawn
   pub hand : AtHand told (line_of w.lines)
@@ -115,7 +116,7 @@ abbrev pub answer_of : Bool → Bool → Bool → Turn
 answer_of done lost bound = if done then turn.Done else if lost then turn.ServerLost else if bound then turn.Bound else turn.More
 
 -- A turn after the first: it waited, and all was settled; or not all was, and it did not wait, visited each connection
--- at which something was to be done, asked each gate that might have something to give, and left nothing to dial and
+-- at which something was to be done, none more than once, asked each gate that might have something to give, and left nothing to dial and
 -- nothing to shut.
 pub data Turned {N : Type 0} (did : N → Call → N → Type 0) (outgoing : N → ℕ → List ℕ) (said : N → ℕ → Answers) (top : N → ℕ) (to_dial : N → List (ℕ × List ℕ)) (takes : Gate → Bool)
     (told0 told1 : Option (List Entry)) (w0 w1 : Watch) (node0 node1 : N) : Waited → Type 0 where
@@ -123,7 +124,7 @@ pub data Turned {N : Type 0} (did : N → Call → N → Type 0) (outgoing : N �
       → Tells told0 told1 (entry.Wait names answer ∷ []) → Follows (entry.Wait names answer ∷ []) w0 w1 → node1 ≡ node0
       → Turned did outgoing said top to_dial takes told0 told1 w0 w1 node0 node1 answer
   Acted : (AllSettled takes w0 (said node0) → ⊥) → (made : Made did outgoing said top told0 told1 w0 w1 node0 node1)
-      → VisitsAll did outgoing said top (known_of w0) node0 node1 made.entries → AsksGates takes w0.gates made.entries
+      → VisitsAll did outgoing said top (known_of w0) node0 node1 made.entries → AsksGates takes w0.gates made.entries → VisitsOnce made.entries
       → to_dial node1 ≡ [] → NoneDue (line_of w1.lines) (said node1)
       → Turned did outgoing said top to_dial takes told0 told1 w0 w1 node0 node1 waited.Ready
 

@@ -1,5 +1,5 @@
 -- Whom a turn that does not wait visits, and which gates it asks.
-use Rattle.std.specs.Prelude.{◌≡◌, ℕ, ◌==◌, ◌⊎◌, Bool, true, false, ◌||◌, List, [], ◌∷◌, ◌++◌, Option}
+use Rattle.std.specs.Prelude.{◌≡◌, ℕ, ◌+◌, ◌≤◌, ◌==◌, ◌⊎◌, Bool, true, false, ◌||◌, List, [], ◌∷◌, ◌++◌, Option, if◌then◌else◌}
 use Rattle.kn_port.specs.declared.names.Gate.{Gate}
 use Rattle.kn_port.specs.declared.names.Gate.TheVariants as gate
 use Rattle.kn_port.specs.declared.entry.Entry.{Entry}
@@ -9,6 +9,7 @@ use Rattle.kn_loop.specs.declared.gates.Gates.{Gates}
 use Rattle.kn_loop.specs.Calls.{Answers, Call}
 use Rattle.kn_loop.specs.Doing.{is_busy}
 use Rattle.kn_loop.specs.Gates.{gate_of, is_unsettled}
+use Rattle.kn_loop.specs.Kept.{copies}
 use Rattle.kn_loop.specs.Known.{Known, known_from}
 use Rattle.kn_loop.specs.Ran.{Ran, Made}
 use Rattle.kn_loop.specs.Watch.{lines_from}
@@ -27,6 +28,52 @@ is_visit (entry.Shut n) c = false
 abbrev pub has_visit : List Entry → ℕ → Bool
 has_visit [] c = false
 has_visit (e ∷ es) c = is_visit e c || has_visit es c
+
+-- the end of the connection's dial is asked for
+abbrev pub is_ask : ℕ → Entry → Bool
+is_ask c (entry.Listen gate address answer) = false
+is_ask c (entry.Wait names answer) = false
+is_ask c (entry.Accept gate answer) = false
+is_ask c (entry.Dial address answer) = false
+is_ask c (entry.DialEnd n answer) = n == c
+is_ask c (entry.Read n room bytes answer) = false
+is_ask c (entry.Write n given bytes answer) = false
+is_ask c (entry.Shut n) = false
+
+-- the connection is read
+abbrev pub is_read : ℕ → Entry → Bool
+is_read c (entry.Listen gate address answer) = false
+is_read c (entry.Wait names answer) = false
+is_read c (entry.Accept gate answer) = false
+is_read c (entry.Dial address answer) = false
+is_read c (entry.DialEnd n answer) = false
+is_read c (entry.Read n room bytes answer) = n == c
+is_read c (entry.Write n given bytes answer) = false
+is_read c (entry.Shut n) = false
+
+-- the connection is written
+abbrev pub is_write : ℕ → Entry → Bool
+is_write c (entry.Listen gate address answer) = false
+is_write c (entry.Wait names answer) = false
+is_write c (entry.Accept gate answer) = false
+is_write c (entry.Dial address answer) = false
+is_write c (entry.DialEnd n answer) = false
+is_write c (entry.Read n room bytes answer) = false
+is_write c (entry.Write n given bytes answer) = n == c
+is_write c (entry.Shut n) = false
+
+-- how many of these entries are so
+abbrev pub times : (Entry → Bool) → List Entry → ℕ
+times so [] = 0
+times so (e ∷ es) = (if so e then 1 else 0) + times so es
+
+-- Each connection is visited once at most: the end of its dial is asked for once, it is read once, and it is written once.
+abbrev pub VisitsOnce : List Entry → Type 0
+VisitsOnce es = (c : ℕ) → (times (is_ask c) es ≤ 1) × (times (is_read c) es ≤ 1) × (times (is_write c) es ≤ 1)
+
+-- It is asked, read and written no more often than it stands in these lists.
+abbrev pub Within : List ℕ → List ℕ → List ℕ → List Entry → Type 0
+Within asks reads writes es = (c : ℕ) → (times (is_ask c) es ≤ copies c asks) × (times (is_read c) es ≤ copies c reads) × (times (is_write c) es ≤ copies c writes)
 
 abbrev pub is_gate : Gate → Gate → Bool
 is_gate gate.Agents gate.Agents = true

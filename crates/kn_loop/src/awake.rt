@@ -1,5 +1,5 @@
 ghost use Rattle.std.specs.Prelude.{◌≡◌, ℕ, ◌==◌, ◌<◌, ◌||◌, ◌&&◌, not, [], ◌∷◌, length, Bool, true, false, None, Some, Option, OnOk, OnErr, MatchOption, IfNone, ◌⊎◌};
-ghost use Rattle.kn_loop.specs.Kept.{is_in};
+ghost use Rattle.kn_loop.specs.Kept.{is_in, NoTwice};
 
 use kn_io::NoMemory;
 use std::alloc::Global;
@@ -41,6 +41,13 @@ impl Awake {
         ensures { result ≡ (length self.now == 0) }
     {
         self.inner.is_empty()
+    }
+
+    /// None is there twice.
+    pub(crate) fn holds(&self)
+        ensures { NoTwice self.now }
+    {
+        let _count = self.inner.len();
     }
 
     /// Takes out the least.

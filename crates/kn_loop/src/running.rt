@@ -1,5 +1,6 @@
 ghost use Rattle.std.specs.Prelude.{ℕ, Bool, true, false, ◌≡◌, ◌<◌, ◌≤◌, ◌==◌, not, List, [], length, OnOk, IfOk};
 ghost use Rattle.kn_loop.specs.Turns.{is_busy, is_due, is_active, is_done, is_bound, answer_of};
+ghost use Rattle.kn_loop.specs.Calls.{unpaused};
 ghost use Rattle.kn_loop.specs.Kept.{is_in, line_of};
 
 use crate::awake::Awake;
@@ -22,7 +23,7 @@ pub struct Running<N: Node + Drop> {
     pub(crate) watch: Watch,
     /// Within a turn: the connections of which something else is known or said.
     pub(crate) awake: Awake,
-    /// Between turns: the connections that are to be visited.
+    /// Between turns: the connections at which something would be to do if the bytes of each were wanted.
     pub(crate) busy: Vec<u64>,
     pub(crate) room: Vec<u8>,
     pub(crate) woken: Woken,
@@ -46,9 +47,23 @@ impl<N: Node + Drop> Running<N> {
         }
     }
 
-    /// Whether the connection is to be shut now.
+    /// Whether there would be something to do at the connection if its bytes were wanted.
+    pub(crate) fn is_busy_unpaused(&self, conn: u64) -> bool
+        ensures { result ≡ is_busy (line_of self.now.watch.lines conn) (unpaused (N.answers self.now.node) conn) }
+    {
+        match self.watch.lines.get(conn) {
+            Some(line) => {
+                let has_out = !self.node.out(conn).is_empty();
+                !line.is_settled(true, has_out)
+            }
+            None => false,
+        }
+    }
+
+    /// Whether the connection is to be shut now. The node's want of its bytes does not matter.
     pub(crate) fn is_due(&self, conn: u64) -> bool
-        ensures { result ≡ is_due (line_of self.now.watch.lines conn) (N.answers self.now.node conn) }
+        ensures value { result ≡ is_due (line_of self.now.watch.lines conn) (N.answers self.now.node conn) }
+        ensures alike { result ≡ is_due (line_of self.now.watch.lines conn) (unpaused (N.answers self.now.node) conn) }
     {
         match self.watch.lines.get(conn) {
             Some(_) => self.node.shuts(conn) && self.node.out(conn).is_empty(),
@@ -56,14 +71,14 @@ impl<N: Node + Drop> Running<N> {
         }
     }
 
-    /// Keeps the connection awake where there is something to do at it.
+    /// Keeps the connection awake where there would be something to do at it if its bytes were wanted.
     pub(crate) fn stay_awake(&mut self, conn: u64) -> Result<(), NoMemory>
-        ensures awake { OnOk result (is_active (line_of self.old.watch.lines conn) (N.answers self.old.node conn) ≡ true → is_in self.new.awake conn ≡ true) }
+        ensures awake { OnOk result (is_active (line_of self.old.watch.lines conn) (unpaused (N.answers self.old.node) conn) ≡ true → is_in self.new.awake conn ≡ true) }
         ensures grows { OnOk result ((c : ℕ) → is_in self.old.awake c ≡ true → is_in self.new.awake c ≡ true) }
         ensures watch { self.new.watch ≡ self.old.watch }
         ensures node { self.new.node ≡ self.old.node }
     {
-        if self.is_busy(conn) || self.is_due(conn) {
+        if self.is_busy_unpaused(conn) || self.is_due(conn) {
             return self.awake.add(conn);
         }
         Ok(())

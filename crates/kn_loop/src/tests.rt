@@ -326,7 +326,7 @@ fn a_dial_writes_and_reads(rt: HostRuntime) -> Result<(), Fail> {
         node,
         ticks_of_a_dial(alloc)?,
         0,
-        b"ll..dwu-_w-o-_wr_-_we_",
+        b"ll..dwu-_w-o_wr_-we_",
     )?;
     assert!(rt; is_told && last == Turn::ServerLost);
     Ok(())

@@ -1,10 +1,11 @@
 ghost use Rattle.std.specs.Prelude.{ℕ, true, false, ◌≡◌, ◌≤◌, ◌==◌, [], ◌++◌, length, take, drop, not, ◌&&◌, OnOk, IfOk, MatchResult};
-ghost use Rattle.kn_loop.specs.Kept.{is_in, line_of};
+ghost use Rattle.kn_loop.specs.Calls.{unpaused};
+ghost use Rattle.kn_loop.specs.Kept.{is_in, line_of, NoTwice};
 ghost use Rattle.kn_loop.specs.Gates.{is_unsettled, gate_of, are_gates_settled, gate_named, gates_named};
 ghost use Rattle.kn_loop.specs.Known.{Given, Names, known_of};
 ghost use Rattle.kn_loop.specs.Ran.{Made};
-ghost use Rattle.kn_loop.specs.Turns.{is_busy, AllSettled, WakesLines, Rests, Steady, Turned, IsTurn, TurnCounts, counted};
-ghost use Rattle.kn_loop.specs.Visited.{MadeWith, VisitsAll, AsksGates};
+ghost use Rattle.kn_loop.specs.Turns.{any_busy, AllSettled, WakesLines, Covers, Rests, Steady, Turned, IsTurn, TurnCounts, counted};
+ghost use Rattle.kn_loop.specs.Visited.{MadeWith, VisitsAll, VisitsOnce, AsksGates};
 ghost use Rattle.kn_loop.specs.Watch.{named_from, named_one};
 ghost use Rattle.kn_loop.specs.declared.turn.Turn.TheVariants as turn_is;
 ghost use Rattle.kn_port.specs.Answers.{WaitCounts};
@@ -38,9 +39,9 @@ impl<N: Node + Drop> Running<N> {
     fn wait_once<P: Port>(&mut self, port: &mut P) -> Result<Waited, NoMemory>
         requires settled { AllSettled N.takes_of self.old.watch (N.answers self.old.node) }
         requires steady { Steady self.old.busy.items self.old.awake self.old.watch (N.answers self.old.node) (N.top self.old.node) (P.last port.old) (P.told port.old) }
-        requires empty { self.old.busy.items ≡ [] }
         ensures waited { IfOk result (λ answer. Turned N.did N.outgoing N.answers N.top N.to_dial N.takes_of (P.told port.old) (P.told port.new) self.old.watch self.new.watch self.old.node self.new.node answer) }
-        ensures rests { OnOk result (Rests self.new.busy.items (line_of self.new.watch.lines) (N.answers self.new.node)) }
+        ensures single { OnOk result (NoTwice self.new.busy.items) }
+        ensures rests { OnOk result (Rests self.new.busy.items (line_of self.new.watch.lines) (unpaused (N.answers self.new.node))) }
         ensures asleep { OnOk result (self.new.awake ≡ []) }
         ensures given { OnOk result (Given self.new.watch (N.top self.new.node) (P.last port.new)) }
         ensures count { MatchResult result (λ answer. WaitCounts answer (P.faults port.old) (P.faults port.new)) (λ e. P.faults port.old ≤ P.faults port.new) }
@@ -59,29 +60,58 @@ impl<N: Node + Drop> Running<N> {
         }
     }
 
-    /// Notes what a wait named, and keeps those that are to be visited.
+    /// Wakes the connections that are kept. None is kept then.
+    fn wake_kept(&mut self) -> Result<(), NoMemory>
+        requires covers { Covers (is_in self.old.busy.items) (line_of self.old.watch.lines) (unpaused (N.answers self.old.node)) }
+        ensures covers { OnOk result (Covers (is_in self.new.awake) (line_of self.new.watch.lines) (unpaused (N.answers self.new.node))) }
+        ensures empty { OnOk result (self.new.busy.items ≡ []) }
+        ensures watch { self.new.watch ≡ self.old.watch }
+        ensures node { self.new.node ≡ self.old.node }
+        ensures woken { self.new.woken ≡ self.old.woken }
+    {
+        while let Some(conn) = self.busy.pop() {
+            self.awake.add(conn)?;
+        }
+        Ok(())
+    }
+
+    /// Notes what a wait named, and keeps those that may be to visit, the paused ones of before with them.
     fn hear(&mut self) -> Result<(), NoMemory>
-        requires idle { (c : ℕ) → is_busy (line_of self.old.watch.lines c) (N.answers self.old.node c) ≡ false }
-        requires rests { Rests self.old.busy.items (line_of self.old.watch.lines) (N.answers self.old.node) }
-        requires empty { self.old.busy.items ≡ [] }
+        requires rests { Rests self.old.busy.items (line_of self.old.watch.lines) (unpaused (N.answers self.old.node)) }
         ensures follows { OnOk result (Names self.old.woken self.old.watch self.new.watch) }
         ensures node { self.new.node ≡ self.old.node }
-        ensures rests { OnOk result (Rests self.new.busy.items (line_of self.new.watch.lines) (N.answers self.new.node)) }
+        ensures single { OnOk result (NoTwice self.new.busy.items) }
+        ensures rests { OnOk result (Rests self.new.busy.items (line_of self.new.watch.lines) (unpaused (N.answers self.new.node))) }
         ensures asleep { OnOk result (self.new.awake ≡ []) }
     {
+        self.wake_kept()?;
         wake_all(&mut self.watch, &mut self.awake, self.woken.as_slice())?;
         self.gather()?;
         Ok(())
     }
 
-    /// Whether there is nothing to do but to wait.
-    fn is_settled(&self) -> bool
-        ensures { result ≡ (length self.now.busy.items == 0 && are_gates_settled N.takes_of self.now.watch.gates) }
+    /// Whether something is to be done at one of the connections that are kept.
+    fn any_busy(&self) -> bool
+        ensures { result ≡ any_busy self.now.busy.items (line_of self.now.watch.lines) (N.answers self.now.node) }
     {
-        self.busy.is_empty() && self.are_gates_settled()
+        let mut rest = self.busy.as_slice();
+        while let Some((first, after)) = rest.split_first() {
+            if self.is_busy(*first) {
+                return true;
+            }
+            rest = after;
+        }
+        false
     }
 
-    /// Puts the connections that are to be visited in their order: by number, from behind the last that gave bytes.
+    /// Whether there is nothing to do but to wait.
+    fn is_settled(&self) -> bool
+        ensures { result ≡ (not (any_busy self.now.busy.items (line_of self.now.watch.lines) (N.answers self.now.node)) && are_gates_settled N.takes_of self.now.watch.gates) }
+    {
+        !self.any_busy() && self.are_gates_settled()
+    }
+
+    /// Puts the connections that are kept in their order: by number, from behind the last that gave bytes.
     fn take_batch(&mut self) -> Vec<u64>
         ensures order { (k : ℕ) × (result.items ≡ drop k self.old.busy.items ++ take k self.old.busy.items) }
         ensures empty { self.new.busy.items ≡ [] }
@@ -101,11 +131,12 @@ impl<N: Node + Drop> Running<N> {
         requires steady { Steady self.old.busy.items self.old.awake self.old.watch (N.answers self.old.node) (N.top self.old.node) (P.last port.old) (P.told port.old) }
         ensures made { OnOk result (Made N.did N.outgoing N.answers N.top (P.told port.old) (P.told port.new) self.old.watch self.new.watch self.old.node self.new.node) }
         ensures dialled { OnOk result (N.to_dial self.new.node ≡ []) }
-        ensures rests { OnOk result (Rests self.new.busy.items (line_of self.new.watch.lines) (N.answers self.new.node)) }
+        ensures single { OnOk result (NoTwice self.new.busy.items) }
+        ensures rests { OnOk result (Rests self.new.busy.items (line_of self.new.watch.lines) (unpaused (N.answers self.new.node))) }
         ensures asleep { OnOk result (self.new.awake ≡ []) }
         ensures given { OnOk result (Given self.new.watch (N.top self.new.node) (P.last port.new)) }
         ensures faults { P.faults port.old ≤ P.faults port.new }
-        ensures served { OnOk result (MadeWith N.did N.outgoing N.answers N.top (λ es. VisitsAll N.did N.outgoing N.answers N.top (known_of self.old.watch) self.old.node self.new.node es × AsksGates N.takes_of self.old.watch.gates es) (P.told port.old) (P.told port.new) self.old.watch self.new.watch self.old.node self.new.node) }
+        ensures served { OnOk result (MadeWith N.did N.outgoing N.answers N.top (λ es. VisitsAll N.did N.outgoing N.answers N.top (known_of self.old.watch) self.old.node self.new.node es × AsksGates N.takes_of self.old.watch.gates es × VisitsOnce es) (P.told port.old) (P.told port.new) self.old.watch self.new.watch self.old.node self.new.node) }
     {
         let mut batch = self.take_batch();
         self.visit_all(port, batch.as_slice())?;
@@ -120,7 +151,8 @@ impl<N: Node + Drop> Running<N> {
     fn go_on<P: Port>(&mut self, port: &mut P) -> Result<Waited, NoMemory>
         requires steady { Steady self.old.busy.items self.old.awake self.old.watch (N.answers self.old.node) (N.top self.old.node) (P.last port.old) (P.told port.old) }
         ensures turned { IfOk result (λ answer. Turned N.did N.outgoing N.answers N.top N.to_dial N.takes_of (P.told port.old) (P.told port.new) self.old.watch self.new.watch self.old.node self.new.node answer) }
-        ensures rests { OnOk result (Rests self.new.busy.items (line_of self.new.watch.lines) (N.answers self.new.node)) }
+        ensures single { OnOk result (NoTwice self.new.busy.items) }
+        ensures rests { OnOk result (Rests self.new.busy.items (line_of self.new.watch.lines) (unpaused (N.answers self.new.node))) }
         ensures asleep { OnOk result (self.new.awake ≡ []) }
         ensures given { OnOk result (Given self.new.watch (N.top self.new.node) (P.last port.new)) }
         ensures count { MatchResult result (λ answer. WaitCounts answer (P.faults port.old) (P.faults port.new)) (λ e. P.faults port.old ≤ P.faults port.new) }

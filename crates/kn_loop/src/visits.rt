@@ -1,11 +1,11 @@
 ghost use Rattle.std.specs.Prelude.{ℕ, Bool, true, false, ◌≡◌, ◌<◌, ◌≤◌, ◌==◌, not, ◌&&◌, List, [], ◌∷◌, length, Some, None, OnOk, is_some};
-ghost use Rattle.kn_loop.specs.Calls.{Wakes};
-ghost use Rattle.kn_loop.specs.Doing.{may_ask, may_read, may_write};
+ghost use Rattle.kn_loop.specs.Calls.{Wakes, unpaused};
+ghost use Rattle.kn_loop.specs.Doing.{may_ask, may_read, may_write, reads_now, writes_now};
 ghost use Rattle.kn_loop.specs.Kept.{is_in, line_of};
 ghost use Rattle.kn_loop.specs.Known.{known_of};
 ghost use Rattle.kn_loop.specs.Ran.{Made, ReadDid, WroteDid, DialEndDid, leads_to_server};
 ghost use Rattle.kn_loop.specs.Turns.{is_busy, Touches, SameConns, Visits, Covers, CoversBut, AreAllGiven, take_got, take_took};
-ghost use Rattle.kn_loop.specs.Visited.{MadeWith, VisitsOf, has_visit};
+ghost use Rattle.kn_loop.specs.Visited.{MadeWith, VisitsOf, Within, has_visit};
 ghost use Rattle.kn_port.specs.Answers.{GotFits, TookFits};
 ghost use Rattle.kn_port.specs.Journal.{read_entries, write_entries, dial_end_entries};
 
@@ -22,7 +22,7 @@ impl<N: Node + Drop> Running<N> {
         requires wanted { (N.answers self.old.node conn).wants ≡ true }
         requires fits { GotFits got (length self.old.room.items) }
         ensures did { OnOk result (ReadDid N.did N.outgoing self.old.node conn (take_got got self.old.room.items) got self.new.node) }
-        ensures wakes { OnOk result (Wakes (is_in self.old.awake) (is_in self.new.awake) (N.answers self.old.node) (N.answers self.new.node)) }
+        ensures wakes { OnOk result (Wakes (is_in self.old.awake) (is_in self.new.awake) (unpaused (N.answers self.old.node)) (unpaused (N.answers self.new.node))) }
         ensures top { OnOk result (N.top self.new.node ≡ N.top self.old.node) }
         ensures watch { self.new.watch ≡ self.old.watch }
         ensures visit { OnOk result (has_visit (read_entries conn self.old.room.items got) conn ≡ true) }
@@ -46,13 +46,13 @@ impl<N: Node + Drop> Running<N> {
         requires wanted { (N.answers self.old.node conn).wants ≡ true }
         requires line { may_read (line_of self.old.watch.lines conn) ≡ true }
         ensures made { OnOk result (Made N.did N.outgoing N.answers N.top (P.told port.old) (P.told port.new) self.old.watch self.new.watch self.old.node self.new.node) }
-        ensures wakes { OnOk result (Wakes (is_in self.old.awake) (is_in self.new.awake) (N.answers self.old.node) (N.answers self.new.node)) }
+        ensures wakes { OnOk result (Wakes (is_in self.old.awake) (is_in self.new.awake) (unpaused (N.answers self.old.node)) (unpaused (N.answers self.new.node))) }
         ensures touches { OnOk result (Touches conn (line_of self.old.watch.lines) (line_of self.new.watch.lines)) }
         ensures held { OnOk result (self.new.watch.held ≡ self.old.watch.held) }
         ensures top { OnOk result (N.top self.new.node ≡ N.top self.old.node) }
         ensures faults { P.faults port.old ≤ P.faults port.new }
         ensures last { P.last port.new ≡ P.last port.old }
-        ensures visited { OnOk result (MadeWith N.did N.outgoing N.answers N.top (λ es. has_visit es conn ≡ true) (P.told port.old) (P.told port.new) self.old.watch self.new.watch self.old.node self.new.node) }
+        ensures visited { OnOk result (MadeWith N.did N.outgoing N.answers N.top (λ es. (has_visit es conn ≡ true) × Within [] (conn ∷ []) [] es) (P.told port.old) (P.told port.new) self.old.watch self.new.watch self.old.node self.new.node) }
     {
         let got = port.read(conn, &mut self.room);
         self.watch.lines.note_read(conn, got)?;
@@ -64,7 +64,7 @@ impl<N: Node + Drop> Running<N> {
         requires given { conn ≤ N.top self.old.node }
         requires fits { TookFits took (length (N.outgoing self.old.node conn)) }
         ensures did { OnOk result (WroteDid N.did N.outgoing self.old.node conn (take_took took (N.outgoing self.old.node conn)) took self.new.node) }
-        ensures wakes { OnOk result (Wakes (is_in self.old.awake) (is_in self.new.awake) (N.answers self.old.node) (N.answers self.new.node)) }
+        ensures wakes { OnOk result (Wakes (is_in self.old.awake) (is_in self.new.awake) (unpaused (N.answers self.old.node)) (unpaused (N.answers self.new.node))) }
         ensures top { OnOk result (N.top self.new.node ≡ N.top self.old.node) }
         ensures watch { self.new.watch ≡ self.old.watch }
         ensures visit { OnOk result (has_visit (write_entries conn (N.outgoing self.old.node conn) took) conn ≡ true) }
@@ -84,13 +84,13 @@ impl<N: Node + Drop> Running<N> {
         requires some { 0 < length (N.outgoing self.old.node conn) }
         requires line { may_write (line_of self.old.watch.lines conn) ≡ true }
         ensures made { OnOk result (Made N.did N.outgoing N.answers N.top (P.told port.old) (P.told port.new) self.old.watch self.new.watch self.old.node self.new.node) }
-        ensures wakes { OnOk result (Wakes (is_in self.old.awake) (is_in self.new.awake) (N.answers self.old.node) (N.answers self.new.node)) }
+        ensures wakes { OnOk result (Wakes (is_in self.old.awake) (is_in self.new.awake) (unpaused (N.answers self.old.node)) (unpaused (N.answers self.new.node))) }
         ensures touches { OnOk result (Touches conn (line_of self.old.watch.lines) (line_of self.new.watch.lines)) }
         ensures held { OnOk result (self.new.watch.held ≡ self.old.watch.held) }
         ensures top { OnOk result (N.top self.new.node ≡ N.top self.old.node) }
         ensures faults { P.faults port.old ≤ P.faults port.new }
         ensures last { P.last port.new ≡ P.last port.old }
-        ensures visited { OnOk result (MadeWith N.did N.outgoing N.answers N.top (λ es. has_visit es conn ≡ true) (P.told port.old) (P.told port.new) self.old.watch self.new.watch self.old.node self.new.node) }
+        ensures visited { OnOk result (MadeWith N.did N.outgoing N.answers N.top (λ es. (has_visit es conn ≡ true) × Within [] [] (conn ∷ []) es) (P.told port.old) (P.told port.new) self.old.watch self.new.watch self.old.node self.new.node) }
     {
         let took = port.write(conn, self.node.out(conn));
         self.watch.lines.note_write(conn, took)?;
@@ -101,7 +101,7 @@ impl<N: Node + Drop> Running<N> {
     fn tell_server_dial(&mut self, conn: u64, end: DialEnd) -> Result<(), NoMemory>
         requires given { conn ≤ N.top self.old.node }
         ensures did { OnOk result (DialEndDid N.did N.outgoing true self.old.node conn end self.new.node) }
-        ensures wakes { OnOk result (Wakes (is_in self.old.awake) (is_in self.new.awake) (N.answers self.old.node) (N.answers self.new.node)) }
+        ensures wakes { OnOk result (Wakes (is_in self.old.awake) (is_in self.new.awake) (unpaused (N.answers self.old.node)) (unpaused (N.answers self.new.node))) }
         ensures top { OnOk result (N.top self.new.node ≡ N.top self.old.node) }
         ensures watch { self.new.watch ≡ self.old.watch }
         ensures visit { OnOk result (has_visit (dial_end_entries conn end) conn ≡ true) }
@@ -118,7 +118,7 @@ impl<N: Node + Drop> Running<N> {
     fn tell_dial(&mut self, conn: u64, end: DialEnd) -> Result<(), NoMemory>
         requires given { conn ≤ N.top self.old.node }
         ensures did { OnOk result (DialEndDid N.did N.outgoing false self.old.node conn end self.new.node) }
-        ensures wakes { OnOk result (Wakes (is_in self.old.awake) (is_in self.new.awake) (N.answers self.old.node) (N.answers self.new.node)) }
+        ensures wakes { OnOk result (Wakes (is_in self.old.awake) (is_in self.new.awake) (unpaused (N.answers self.old.node)) (unpaused (N.answers self.new.node))) }
         ensures top { OnOk result (N.top self.new.node ≡ N.top self.old.node) }
         ensures watch { self.new.watch ≡ self.old.watch }
         ensures visit { OnOk result (has_visit (dial_end_entries conn end) conn ≡ true) }
@@ -134,7 +134,7 @@ impl<N: Node + Drop> Running<N> {
     fn tell_dial_end(&mut self, conn: u64, is_server: bool, end: DialEnd) -> Result<(), NoMemory>
         requires given { conn ≤ N.top self.old.node }
         ensures did { OnOk result (DialEndDid N.did N.outgoing is_server self.old.node conn end self.new.node) }
-        ensures wakes { OnOk result (Wakes (is_in self.old.awake) (is_in self.new.awake) (N.answers self.old.node) (N.answers self.new.node)) }
+        ensures wakes { OnOk result (Wakes (is_in self.old.awake) (is_in self.new.awake) (unpaused (N.answers self.old.node)) (unpaused (N.answers self.new.node))) }
         ensures top { OnOk result (N.top self.new.node ≡ N.top self.old.node) }
         ensures watch { self.new.watch ≡ self.old.watch }
         ensures visit { OnOk result (has_visit (dial_end_entries conn end) conn ≡ true) }
@@ -152,13 +152,13 @@ impl<N: Node + Drop> Running<N> {
         requires below { N.top self.old.node ≤ P.last port.old }
         requires line { may_ask (line_of self.old.watch.lines conn) ≡ true }
         ensures made { OnOk result (Made N.did N.outgoing N.answers N.top (P.told port.old) (P.told port.new) self.old.watch self.new.watch self.old.node self.new.node) }
-        ensures wakes { OnOk result (Wakes (is_in self.old.awake) (is_in self.new.awake) (N.answers self.old.node) (N.answers self.new.node)) }
+        ensures wakes { OnOk result (Wakes (is_in self.old.awake) (is_in self.new.awake) (unpaused (N.answers self.old.node)) (unpaused (N.answers self.new.node))) }
         ensures touches { OnOk result (Touches conn (line_of self.old.watch.lines) (line_of self.new.watch.lines)) }
         ensures held { OnOk result (self.new.watch.held ≡ self.old.watch.held) }
         ensures top { OnOk result (N.top self.new.node ≡ N.top self.old.node) }
         ensures faults { P.faults port.old ≤ P.faults port.new }
         ensures last { P.last port.new ≡ P.last port.old }
-        ensures visited { OnOk result (MadeWith N.did N.outgoing N.answers N.top (λ es. has_visit es conn ≡ true) (P.told port.old) (P.told port.new) self.old.watch self.new.watch self.old.node self.new.node) }
+        ensures visited { OnOk result (MadeWith N.did N.outgoing N.answers N.top (λ es. (has_visit es conn ≡ true) × Within (conn ∷ []) [] [] es) (P.told port.old) (P.told port.new) self.old.watch self.new.watch self.old.node self.new.node) }
     {
         let end = port.dial_end(conn);
         let is_server = self.watch.lines.leads_to_server(conn);
@@ -175,21 +175,26 @@ impl<N: Node + Drop> Running<N> {
         }
     }
 
-    fn may_read(&self, conn: u64) -> bool
-        ensures { result ≡ (may_read (line_of self.now.watch.lines conn) && (N.answers self.now.node conn).wants) }
+    /// Whether bytes are to be read now. One whose read waits is not read again until the port names it.
+    fn reads_now(&self, conn: u64) -> bool
+        ensures value { result ≡ reads_now (line_of self.now.watch.lines conn) (N.answers self.now.node conn) }
+        ensures may { result ≡ true → may_read (line_of self.now.watch.lines conn) ≡ true }
+        ensures wanted { result ≡ true → (N.answers self.now.node conn).wants ≡ true }
     {
         match self.watch.lines.get(conn) {
-            Some(line) => line.may_read() && self.node.wants(conn),
+            Some(line) => line.may_read() && !line.read_waits && self.node.wants(conn),
             None => false,
         }
     }
 
-    fn may_write(&self, conn: u64) -> bool
-        ensures value { result ≡ (may_write (line_of self.now.watch.lines conn) && (N.answers self.now.node conn).has_out) }
+    /// Whether bytes are to be written now.
+    fn writes_now(&self, conn: u64) -> bool
+        ensures value { result ≡ writes_now (line_of self.now.watch.lines conn) (N.answers self.now.node conn) }
+        ensures may { result ≡ true → may_write (line_of self.now.watch.lines conn) ≡ true }
         ensures some { result ≡ true → 0 < length (N.outgoing self.now.node conn) }
     {
         match self.watch.lines.get(conn) {
-            Some(line) => line.may_write() && !self.node.out(conn).is_empty(),
+            Some(line) => line.may_write() && !line.write_waits && !self.node.out(conn).is_empty(),
             None => false,
         }
     }
@@ -199,16 +204,16 @@ impl<N: Node + Drop> Running<N> {
         requires given { (0 < conn) × (conn ≤ N.top self.old.node) }
         requires below { N.top self.old.node ≤ P.last port.old }
         ensures made { OnOk result (Made N.did N.outgoing N.answers N.top (P.told port.old) (P.told port.new) self.old.watch self.new.watch self.old.node self.new.node) }
-        ensures wakes { OnOk result (Wakes (is_in self.old.awake) (is_in self.new.awake) (N.answers self.old.node) (N.answers self.new.node)) }
+        ensures wakes { OnOk result (Wakes (is_in self.old.awake) (is_in self.new.awake) (unpaused (N.answers self.old.node)) (unpaused (N.answers self.new.node))) }
         ensures touches { OnOk result (Touches conn (line_of self.old.watch.lines) (line_of self.new.watch.lines)) }
         ensures held { OnOk result (self.new.watch.held ≡ self.old.watch.held) }
         ensures top { OnOk result (N.top self.new.node ≡ N.top self.old.node) }
         ensures faults { P.faults port.old ≤ P.faults port.new }
         ensures last { P.last port.new ≡ P.last port.old }
-        ensures visited { OnOk result (MadeWith N.did N.outgoing N.answers N.top (λ es. (may_read (line_of self.old.watch.lines conn) && (N.answers self.old.node conn).wants) ≡ true → has_visit es conn ≡ true) (P.told port.old) (P.told port.new) self.old.watch self.new.watch self.old.node self.new.node) }
-        ensures idle { OnOk result ((may_read (line_of self.old.watch.lines conn) && (N.answers self.old.node conn).wants) ≡ false → (self.new.watch ≡ self.old.watch) × (self.new.node ≡ self.old.node)) }
+        ensures visited { OnOk result (MadeWith N.did N.outgoing N.answers N.top (λ es. (reads_now (line_of self.old.watch.lines conn) (N.answers self.old.node conn) ≡ true → has_visit es conn ≡ true) × Within [] (conn ∷ []) [] es) (P.told port.old) (P.told port.new) self.old.watch self.new.watch self.old.node self.new.node) }
+        ensures idle { OnOk result (reads_now (line_of self.old.watch.lines conn) (N.answers self.old.node conn) ≡ false → (self.new.watch ≡ self.old.watch) × (self.new.node ≡ self.old.node)) }
     {
-        if self.may_read(conn) {
+        if self.reads_now(conn) {
             return self.read_once(port, conn);
         }
         Ok(())
@@ -219,15 +224,15 @@ impl<N: Node + Drop> Running<N> {
         requires given { (0 < conn) × (conn ≤ N.top self.old.node) }
         requires below { N.top self.old.node ≤ P.last port.old }
         ensures made { OnOk result (Made N.did N.outgoing N.answers N.top (P.told port.old) (P.told port.new) self.old.watch self.new.watch self.old.node self.new.node) }
-        ensures wakes { OnOk result (Wakes (is_in self.old.awake) (is_in self.new.awake) (N.answers self.old.node) (N.answers self.new.node)) }
+        ensures wakes { OnOk result (Wakes (is_in self.old.awake) (is_in self.new.awake) (unpaused (N.answers self.old.node)) (unpaused (N.answers self.new.node))) }
         ensures touches { OnOk result (Touches conn (line_of self.old.watch.lines) (line_of self.new.watch.lines)) }
         ensures held { OnOk result (self.new.watch.held ≡ self.old.watch.held) }
         ensures top { OnOk result (N.top self.new.node ≡ N.top self.old.node) }
         ensures faults { P.faults port.old ≤ P.faults port.new }
         ensures last { P.last port.new ≡ P.last port.old }
-        ensures visited { OnOk result (MadeWith N.did N.outgoing N.answers N.top (λ es. (may_write (line_of self.old.watch.lines conn) && (N.answers self.old.node conn).has_out) ≡ true → has_visit es conn ≡ true) (P.told port.old) (P.told port.new) self.old.watch self.new.watch self.old.node self.new.node) }
+        ensures visited { OnOk result (MadeWith N.did N.outgoing N.answers N.top (λ es. (writes_now (line_of self.old.watch.lines conn) (N.answers self.old.node conn) ≡ true → has_visit es conn ≡ true) × Within [] [] (conn ∷ []) es) (P.told port.old) (P.told port.new) self.old.watch self.new.watch self.old.node self.new.node) }
     {
-        if self.may_write(conn) {
+        if self.writes_now(conn) {
             return self.write_once(port, conn);
         }
         Ok(())
@@ -238,13 +243,13 @@ impl<N: Node + Drop> Running<N> {
         requires given { (0 < conn) × (conn ≤ N.top self.old.node) }
         requires below { N.top self.old.node ≤ P.last port.old }
         ensures made { OnOk result (Made N.did N.outgoing N.answers N.top (P.told port.old) (P.told port.new) self.old.watch self.new.watch self.old.node self.new.node) }
-        ensures wakes { OnOk result (Wakes (is_in self.old.awake) (is_in self.new.awake) (N.answers self.old.node) (N.answers self.new.node)) }
+        ensures wakes { OnOk result (Wakes (is_in self.old.awake) (is_in self.new.awake) (unpaused (N.answers self.old.node)) (unpaused (N.answers self.new.node))) }
         ensures touches { OnOk result (Touches conn (line_of self.old.watch.lines) (line_of self.new.watch.lines)) }
         ensures held { OnOk result (self.new.watch.held ≡ self.old.watch.held) }
         ensures top { OnOk result (N.top self.new.node ≡ N.top self.old.node) }
         ensures faults { P.faults port.old ≤ P.faults port.new }
         ensures last { P.last port.new ≡ P.last port.old }
-        ensures visited { OnOk result (MadeWith N.did N.outgoing N.answers N.top (λ es. may_ask (line_of self.old.watch.lines conn) ≡ false → is_busy (line_of self.old.watch.lines conn) (N.answers self.old.node conn) ≡ true → has_visit es conn ≡ true) (P.told port.old) (P.told port.new) self.old.watch self.new.watch self.old.node self.new.node) }
+        ensures visited { OnOk result (MadeWith N.did N.outgoing N.answers N.top (λ es. (may_ask (line_of self.old.watch.lines conn) ≡ false → is_busy (line_of self.old.watch.lines conn) (N.answers self.old.node conn) ≡ true → has_visit es conn ≡ true) × Within [] (conn ∷ []) (conn ∷ []) es) (P.told port.old) (P.told port.new) self.old.watch self.new.watch self.old.node self.new.node) }
     {
         self.read_if_due(port, conn)?;
         self.write_if_due(port, conn)?;
@@ -256,13 +261,13 @@ impl<N: Node + Drop> Running<N> {
         requires given { (0 < conn) × (conn ≤ N.top self.old.node) }
         requires below { N.top self.old.node ≤ P.last port.old }
         ensures made { OnOk result (Made N.did N.outgoing N.answers N.top (P.told port.old) (P.told port.new) self.old.watch self.new.watch self.old.node self.new.node) }
-        ensures wakes { OnOk result (Wakes (is_in self.old.awake) (is_in self.new.awake) (N.answers self.old.node) (N.answers self.new.node)) }
+        ensures wakes { OnOk result (Wakes (is_in self.old.awake) (is_in self.new.awake) (unpaused (N.answers self.old.node)) (unpaused (N.answers self.new.node))) }
         ensures touches { OnOk result (Touches conn (line_of self.old.watch.lines) (line_of self.new.watch.lines)) }
         ensures held { OnOk result (self.new.watch.held ≡ self.old.watch.held) }
         ensures top { OnOk result (N.top self.new.node ≡ N.top self.old.node) }
         ensures faults { P.faults port.old ≤ P.faults port.new }
         ensures last { P.last port.new ≡ P.last port.old }
-        ensures visited { OnOk result (MadeWith N.did N.outgoing N.answers N.top (λ es. is_busy (line_of self.old.watch.lines conn) (N.answers self.old.node conn) ≡ true → has_visit es conn ≡ true) (P.told port.old) (P.told port.new) self.old.watch self.new.watch self.old.node self.new.node) }
+        ensures visited { OnOk result (MadeWith N.did N.outgoing N.answers N.top (λ es. (is_busy (line_of self.old.watch.lines conn) (N.answers self.old.node conn) ≡ true → has_visit es conn ≡ true) × Within (conn ∷ []) (conn ∷ []) (conn ∷ []) es) (P.told port.old) (P.told port.new) self.old.watch self.new.watch self.old.node self.new.node) }
     {
         if self.may_ask(conn) {
             self.ask_once(port, conn)
@@ -276,13 +281,13 @@ impl<N: Node + Drop> Running<N> {
         requires given { (0 < conn) × (conn ≤ N.top self.old.node) }
         requires below { N.top self.old.node ≤ P.last port.old }
         ensures made { OnOk result (Made N.did N.outgoing N.answers N.top (P.told port.old) (P.told port.new) self.old.watch self.new.watch self.old.node self.new.node) }
-        ensures visits { OnOk result (Visits conn (is_in self.old.awake) (is_in self.new.awake) (line_of self.old.watch.lines) (line_of self.new.watch.lines) (N.answers self.old.node) (N.answers self.new.node)) }
+        ensures visits { OnOk result (Visits conn (is_in self.old.awake) (is_in self.new.awake) (line_of self.old.watch.lines) (line_of self.new.watch.lines) (unpaused (N.answers self.old.node)) (unpaused (N.answers self.new.node))) }
         ensures conns { OnOk result (SameConns (line_of self.old.watch.lines) (line_of self.new.watch.lines)) }
         ensures held { OnOk result (self.new.watch.held ≡ self.old.watch.held) }
         ensures top { OnOk result (N.top self.new.node ≡ N.top self.old.node) }
         ensures faults { P.faults port.old ≤ P.faults port.new }
         ensures last { P.last port.new ≡ P.last port.old }
-        ensures visited { OnOk result (MadeWith N.did N.outgoing N.answers N.top (λ es. is_busy (line_of self.old.watch.lines conn) (N.answers self.old.node conn) ≡ true → has_visit es conn ≡ true) (P.told port.old) (P.told port.new) self.old.watch self.new.watch self.old.node self.new.node) }
+        ensures visited { OnOk result (MadeWith N.did N.outgoing N.answers N.top (λ es. (is_busy (line_of self.old.watch.lines conn) (N.answers self.old.node conn) ≡ true → has_visit es conn ≡ true) × Within (conn ∷ []) (conn ∷ []) (conn ∷ []) es) (P.told port.old) (P.told port.new) self.old.watch self.new.watch self.old.node self.new.node) }
     {
         self.serve(port, conn)?;
         self.stay_awake(conn)?;
@@ -291,17 +296,17 @@ impl<N: Node + Drop> Running<N> {
 
     /// Visits each of these connections.
     pub(crate) fn visit_all<P: Port>(&mut self, port: &mut P, batch: &[u64]) -> Result<(), NoMemory>
-        requires covers { CoversBut (is_in self.old.awake) (is_in batch.now) (line_of self.old.watch.lines) (N.answers self.old.node) }
+        requires covers { CoversBut (is_in self.old.awake) (is_in batch.now) (line_of self.old.watch.lines) (unpaused (N.answers self.old.node)) }
         requires given { AreAllGiven batch.now (N.top self.old.node) }
         requires below { N.top self.old.node ≤ P.last port.old }
         ensures made { OnOk result (Made N.did N.outgoing N.answers N.top (P.told port.old) (P.told port.new) self.old.watch self.new.watch self.old.node self.new.node) }
-        ensures covers { OnOk result (Covers (is_in self.new.awake) (line_of self.new.watch.lines) (N.answers self.new.node)) }
+        ensures covers { OnOk result (Covers (is_in self.new.awake) (line_of self.new.watch.lines) (unpaused (N.answers self.new.node))) }
         ensures conns { OnOk result (SameConns (line_of self.old.watch.lines) (line_of self.new.watch.lines)) }
         ensures held { OnOk result (self.new.watch.held ≡ self.old.watch.held) }
         ensures top { OnOk result (N.top self.new.node ≡ N.top self.old.node) }
         ensures faults { P.faults port.old ≤ P.faults port.new }
         ensures last { P.last port.new ≡ P.last port.old }
-        ensures visited { OnOk result (MadeWith N.did N.outgoing N.answers N.top (VisitsOf N.did N.outgoing N.answers N.top (is_in batch.now) (known_of self.old.watch) self.old.node self.new.node) (P.told port.old) (P.told port.new) self.old.watch self.new.watch self.old.node self.new.node) }
+        ensures visited { OnOk result (MadeWith N.did N.outgoing N.answers N.top (λ es. VisitsOf N.did N.outgoing N.answers N.top (is_in batch.now) (known_of self.old.watch) self.old.node self.new.node es × Within batch.now batch.now batch.now es) (P.told port.old) (P.told port.new) self.old.watch self.new.watch self.old.node self.new.node) }
     {
         let mut rest = batch;
         while let Some((first, after)) = rest.split_first() {

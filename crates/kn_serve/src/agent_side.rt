@@ -3,7 +3,6 @@ ghost use Rattle.kn_loop.specs.Kept.{is_in};
 ghost use Rattle.kn_agent_node.specs.Answers.{out_of, has_lost_server};
 ghost use Rattle.kn_serve.specs.Sides as side;
 
-use crate::waking::wake_each;
 use kn_agent_node::AgentNode;
 use kn_io::{NoMemory, Text};
 use kn_loop::{Awake, Node};
@@ -20,12 +19,15 @@ pub(crate) struct AgentSide {
 }
 
 impl AgentSide {
-    /// Wakes all connections that are kept.
-    fn wake(&self, awake: &mut Awake) -> Result<(), NoMemory>
-        ensures { OnOk result (side.Woken (is_in awake.old) (is_in awake.new) (side.agent_answers self.now.node)) }
+    /// Takes out the connections that the node stirred, and wakes them.
+    fn wake(&mut self, awake: &mut Awake) -> Result<(), NoMemory>
+        ensures taken { OnOk result (self.new.node ≡ record self.old.node { stirred = [] }) }
+        ensures wakes { OnOk result (side.WakesStirred self.old.node.stirred (is_in awake.old) (is_in awake.new)) }
+        ensures other { self.new.other ≡ self.old.other }
     {
-        awake.add(self.node.server())?;
-        wake_each(awake, self.node.numbers())?;
+        while let Some(conn) = self.node.next_stirred() {
+            awake.add(conn)?;
+        }
         Ok(())
     }
 }
@@ -84,57 +86,47 @@ impl Node for AgentSide {
     }
 
     fn bytes(&mut self, awake: &mut Awake, conn: u64, piece: &[u8]) -> Result<(), NoMemory> {
-        self.wake(awake)?;
         self.node.bytes(self.alloc, conn, piece)?;
         self.wake(awake)
     }
 
     fn took(&mut self, awake: &mut Awake, conn: u64, count: usize) -> Result<(), NoMemory> {
-        self.wake(awake)?;
         self.node.took(self.alloc, conn, count)?;
         self.wake(awake)
     }
 
     fn ended(&mut self, awake: &mut Awake, conn: u64) -> Result<(), NoMemory> {
-        self.wake(awake)?;
         self.node.ended(self.alloc, conn)?;
         self.wake(awake)
     }
 
     fn lost(&mut self, awake: &mut Awake, conn: u64) -> Result<(), NoMemory> {
-        self.wake(awake)?;
         self.node.lost(self.alloc, conn)?;
         self.wake(awake)
     }
 
     fn next_dial(&mut self, awake: &mut Awake) -> Result<Option<(u64, Text)>, NoMemory> {
-        self.wake(awake)?;
-        let dial = self.node.next_dial();
-        self.wake(awake)?;
-        Ok(dial)
+        let _awake = awake;
+        Ok(self.node.next_dial())
     }
 
     #[tactic(auto, using(crate::proofs::TopLemmas::given_below, crate::proofs::TopLemmas::given_is_top))]
     fn began(&mut self, awake: &mut Awake, ticket: u64, conn: u64) -> Result<(), NoMemory> {
-        self.wake(awake)?;
         self.node.began(self.alloc, ticket, conn)?;
         self.wake(awake)
     }
 
     fn not_begun(&mut self, awake: &mut Awake, ticket: u64) -> Result<(), NoMemory> {
-        self.wake(awake)?;
         self.node.not_begun(self.alloc, ticket)?;
         self.wake(awake)
     }
 
     fn dialled(&mut self, awake: &mut Awake, conn: u64, up: bool) -> Result<(), NoMemory> {
-        self.wake(awake)?;
         self.node.dialled(self.alloc, conn, up)?;
         self.wake(awake)
     }
 
     fn drain(&mut self, awake: &mut Awake) -> Result<(), NoMemory> {
-        self.wake(awake)?;
         self.node.drain(self.alloc)?;
         self.wake(awake)
     }

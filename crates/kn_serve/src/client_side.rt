@@ -3,7 +3,6 @@ ghost use Rattle.kn_loop.specs.Kept.{is_in};
 ghost use Rattle.kn_client_node.specs.Calls.{out_of, is_server_lost};
 ghost use Rattle.kn_serve.specs.Sides as side;
 
-use crate::waking::wake_each;
 use kn_client_node::ClientNode;
 use kn_io::{NoMemory, Text};
 use kn_loop::{Awake, Node};
@@ -23,12 +22,17 @@ pub(crate) struct ClientSide {
 }
 
 impl ClientSide {
-    /// Wakes all connections that are kept.
-    fn wake(&self, awake: &mut Awake) -> Result<(), NoMemory>
-        ensures { OnOk result (side.Woken (is_in awake.old) (is_in awake.new) (side.client_answers self.now.node)) }
+    /// Drops what apps would be told, takes out the connections that the node stirred, and wakes them.
+    fn wake(&mut self, awake: &mut Awake) -> Result<(), NoMemory>
+        ensures taken { OnOk result (self.new.node ≡ record self.old.node { ended = []; stirred = [] }) }
+        ensures wakes { OnOk result (side.WakesStirred self.old.node.stirred (is_in awake.old) (is_in awake.new)) }
+        ensures other { self.new.other ≡ self.old.other }
+        ensures address { self.new.address ≡ self.old.address }
     {
-        awake.add(self.node.server())?;
-        wake_each(awake, self.node.numbers())?;
+        self.node.drop_ended(self.alloc);
+        while let Some(conn) = self.node.next_stirred() {
+            awake.add(conn)?;
+        }
         Ok(())
     }
 }
@@ -84,37 +88,27 @@ impl Node for ClientSide {
     #[tactic(auto, using(crate::proofs::TopLemmas::given_below, crate::proofs::TopLemmas::given_is_top))]
     fn opened(&mut self, awake: &mut Awake, conn: u64, gate: Gate) -> Result<(), NoMemory> {
         let _gate = gate;
-        self.wake(awake)?;
         self.node.app(self.alloc, conn, self.address.as_str())?;
-        self.node.drop_ended(self.alloc);
         self.wake(awake)
     }
 
     fn bytes(&mut self, awake: &mut Awake, conn: u64, piece: &[u8]) -> Result<(), NoMemory> {
-        self.wake(awake)?;
         self.node.bytes(self.alloc, conn, piece)?;
-        self.node.drop_ended(self.alloc);
         self.wake(awake)
     }
 
     fn took(&mut self, awake: &mut Awake, conn: u64, count: usize) -> Result<(), NoMemory> {
-        self.wake(awake)?;
         self.node.took(self.alloc, conn, count)?;
-        self.node.drop_ended(self.alloc);
         self.wake(awake)
     }
 
     fn ended(&mut self, awake: &mut Awake, conn: u64) -> Result<(), NoMemory> {
-        self.wake(awake)?;
         self.node.ended(self.alloc, conn)?;
-        self.node.drop_ended(self.alloc);
         self.wake(awake)
     }
 
     fn lost(&mut self, awake: &mut Awake, conn: u64) -> Result<(), NoMemory> {
-        self.wake(awake)?;
         self.node.lost(self.alloc, conn)?;
-        self.node.drop_ended(self.alloc);
         self.wake(awake)
     }
 

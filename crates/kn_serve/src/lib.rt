@@ -9,7 +9,6 @@ mod first;
 mod server_begins;
 mod server_side;
 mod serving;
-mod waking;
 mod words;
 
 pub use agent_begins::run_as_agent;

@@ -3,7 +3,6 @@ ghost use Rattle.kn_loop.specs.Kept.{is_in};
 ghost use Rattle.kn_server_node.specs.Calls.{out_of};
 ghost use Rattle.kn_serve.specs.Sides as side;
 
-use crate::waking::wake_each;
 use kn_io::{NoMemory, Text};
 use kn_loop::{Awake, Node};
 use kn_port::Gate;
@@ -30,11 +29,14 @@ fn kind_of(gate: Gate) -> ServerKind
 }
 
 impl ServerSide {
-    /// Wakes all connections that are kept.
-    fn wake(&self, awake: &mut Awake) -> Result<(), NoMemory>
-        ensures { OnOk result (side.Woken (is_in awake.old) (is_in awake.new) (side.server_answers self.now.node)) }
+    /// Takes out the connections that the node stirred, and wakes them.
+    fn wake(&mut self, awake: &mut Awake) -> Result<(), NoMemory>
+        ensures taken { OnOk result (self.new.node ≡ record self.old.node { stirred = [] }) }
+        ensures wakes { OnOk result (side.WakesStirred self.old.node.stirred (is_in awake.old) (is_in awake.new)) }
     {
-        wake_each(awake, self.node.numbers())?;
+        while let Some(conn) = self.node.next_stirred() {
+            awake.add(conn)?;
+        }
         Ok(())
     }
 }
@@ -88,32 +90,27 @@ impl Node for ServerSide {
     }
 
     fn opened(&mut self, awake: &mut Awake, conn: u64, gate: Gate) -> Result<(), NoMemory> {
-        self.wake(awake)?;
         self.node.opened(self.alloc, conn, kind_of(gate))?;
         self.wake(awake)
     }
 
     fn bytes(&mut self, awake: &mut Awake, conn: u64, piece: &[u8]) -> Result<(), NoMemory> {
-        self.wake(awake)?;
         self.node.bytes(self.alloc, conn, piece)?;
         self.wake(awake)
     }
 
     fn took(&mut self, awake: &mut Awake, conn: u64, count: usize) -> Result<(), NoMemory> {
-        self.wake(awake)?;
         self.node.took(self.alloc, conn, count)?;
         self.wake(awake)
     }
 
     /// Of a server the end of a connection's bytes is its loss.
     fn ended(&mut self, awake: &mut Awake, conn: u64) -> Result<(), NoMemory> {
-        self.wake(awake)?;
         self.node.lost(self.alloc, conn)?;
         self.wake(awake)
     }
 
     fn lost(&mut self, awake: &mut Awake, conn: u64) -> Result<(), NoMemory> {
-        self.wake(awake)?;
         self.node.lost(self.alloc, conn)?;
         self.wake(awake)
     }

@@ -7,6 +7,7 @@ use Rattle.kn_loop.proofs.Giving.{refuse_tells, refused_lines}
 use Rattle.kn_loop.specs.Visited.{is_gate}
 use Rattle.kn_loop.proofs.Covering.{or_first}
 use Rattle.kn_loop.proofs.Visiting.{one_asked, own_gate}
+use Rattle.kn_loop.proofs.Once.{same_le}
 use Rattle.kn_loop.proofs.running.Running.accept_full.Goals as goal
 
 pub returns-in-Conn-clause-made : goal.returns-in-Conn-clause-made
@@ -34,7 +35,7 @@ returns-in-Conn-clause-made g c =
 
 pub returns-in-Conn-clause-asked : goal.returns-in-Conn-clause-asked
 unfolding returns-in-Conn-clause-made
-returns-in-Conn-clause-asked g c = record { made = returns-in-Conn-clause-made g c; holds = or_first (is_gate c.args.gate c.args.gate) false (own_gate c.args.gate) }
+returns-in-Conn-clause-asked g c = record { made = returns-in-Conn-clause-made g c; holds = (or_first (is_gate c.args.gate c.args.gate) false (own_gate c.args.gate), λ k. (same_le 0, same_le 0, same_le 0)) }
 
 pub returns-in-NotYet-clause-asked : goal.returns-in-NotYet-clause-asked
 returns-in-NotYet-clause-asked g c = one_asked g.N.Node.did g.N.Node.outgoing g.N.Node.answers g.N.Node.top c.args.gate accepted.NotYet _ _ _ _ _ _ c.in-NotYet.ensures.told

@@ -1,12 +1,17 @@
-use Rattle.std.proofs.Common.{◌≡◌, ◌&&◌, true}
+use Rattle.std.proofs.Common.{◌≡◌, ◌∷◌, [], true, sym, ◌∙◌}
 use Rattle.std.proofs.lemmas.Result.{on_ok_weaker}
 use Rattle.kn_loop.specs.Kept.{line_of}
-use Rattle.kn_loop.specs.Doing.{may_write}
-use Rattle.kn_loop.specs.Visited.{has_visit}
-use Rattle.kn_loop.proofs.Visiting.{with_weaker}
+use Rattle.kn_loop.specs.Doing.{writes_now}
+use Rattle.kn_loop.specs.Visited.{has_visit, Within}
+use Rattle.kn_loop.proofs.Visiting.{with_weaker, with_nothing}
+use Rattle.kn_loop.proofs.Once.{not_both, within_nothing}
 use Rattle.kn_loop.proofs.running.Running.write_if_due.Goals as goal
 
-pub returns-then-may_write-clause-visited : goal.returns-then-may_write-clause-visited
-returns-then-may_write-clause-visited g c = on_ok_weaker c.write_once.result
-    (with_weaker g.N.Node.did g.N.Node.outgoing g.N.Node.answers g.N.Node.top (λ es. has_visit es c.args.conn ≡ true) (λ es. (may_write (line_of c.args.self.now.watch.lines c.args.conn) && (g.N.Node.answers c.args.self.now.node c.args.conn).has_out) ≡ true → has_visit es c.args.conn ≡ true) _ _ _ _ _ _ (λ es h e. h))
+pub returns-then-writes_now-clause-visited : goal.returns-then-writes_now-clause-visited
+returns-then-writes_now-clause-visited g c = on_ok_weaker c.write_once.result
+    (with_weaker g.N.Node.did g.N.Node.outgoing g.N.Node.answers g.N.Node.top (λ es. (has_visit es c.args.conn ≡ true) × Within [] [] (c.args.conn ∷ []) es) (λ es. (writes_now (line_of c.args.self.now.watch.lines c.args.conn) (g.N.Node.answers c.args.self.now.node c.args.conn) ≡ true → has_visit es c.args.conn ≡ true) × Within [] [] (c.args.conn ∷ []) es) _ _ _ _ _ _ (λ es h. (λ e. h.0, h.1)))
     c.write_once.ensures.visited
+
+pub returns-clause-visited : goal.returns-clause-visited
+returns-clause-visited g c = with_nothing g.N.Node.did g.N.Node.outgoing g.N.Node.answers g.N.Node.top (λ es. (writes_now (line_of c.args.self.now.watch.lines c.args.conn) (g.N.Node.answers c.args.self.now.node c.args.conn) ≡ true → has_visit es c.args.conn ≡ true) × Within [] [] (c.args.conn ∷ []) es)
+    (λ e. not_both (writes_now (line_of c.args.self.now.watch.lines c.args.conn) (g.N.Node.answers c.args.self.now.node c.args.conn)) (sym c.writes_now.ensures.value ∙ c.if-writes_now.false) e, within_nothing [] [] (c.args.conn ∷ [])) _ _ _
