@@ -1,4 +1,6 @@
 pub mod StepLemmas
-pub mod TopLemmas
+pub mod OthersLemmas
+pub mod StirLemmas
+pub mod KeepLemmas
 pub mod KnownLemmas
 pub mod StartLemmas

@@ -5,6 +5,7 @@ use Rattle.kn_edge_core.specs.declared.connection.DestState.{DestState}
 use Rattle.kn_edge_core.specs.declared.connection.DestState.TheVariants.{Open, Lingering}
 use Rattle.kn_edge_core.specs.AgentTables.{connection_at}
 use Rattle.kn_rising.specs.Members.{at}
+use Rattle.kn_rising.specs.Stirring.{is_stirred}
 use Rattle.kn_ends.specs.Carriers.{is_live, is_bare}
 use Rattle.kn_ends.specs.Carriers as carriers
 use Rattle.kn_agent_node.specs.declared.purpose.Purpose.{Purpose}
@@ -80,3 +81,9 @@ has_lost_server node = not (is_live node.carrier) || is_none (inlet_of node)
 -- ---- of a connection that is not kept nothing is wanted or to be written, and it is to be closed
 abbrev pub IsUnknown : Node → ℕ → Type 0
 IsUnknown node conn = (wants_of node conn ≡ false) × (out_of node conn ≡ []) × (shuts_of node conn ≡ true)
+
+-- ---- What is to be written on a connection, and whether it is to be closed, are other than before only where it was stirred;
+-- and none that was is forgotten.
+abbrev pub Stirs : Node → Node → Type 0
+Stirs old new = (c : ℕ) → (is_stirred c old.stirred ≡ true → is_stirred c new.stirred ≡ true)
+    × (is_stirred c new.stirred ≡ false → (out_of new c ≡ out_of old c) × (shuts_of new c ≡ shuts_of old c))

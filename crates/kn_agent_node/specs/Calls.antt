@@ -19,7 +19,7 @@ use Rattle.kn_agent_node.specs.declared.purpose.Purpose.TheVariants.{Dials, Carr
 use Rattle.kn_agent_node.specs.declared.request.Request.{Request}
 use Rattle.kn_agent_node.specs.declared.side.Side.{Side}
 use Rattle.kn_agent_node.specs.declared.node.Node.{Node}
-use Rattle.kn_agent_node.specs.Nodes.{on_carrier, event}
+use Rattle.kn_agent_node.specs.Nodes.{on_carrier, stir, event}
 use Rattle.kn_agent_node.specs.Steps.{Settles}
 
 -- ---- a new agent: its connection begins, and on it the agent's call
@@ -49,6 +49,7 @@ new_node server carrier stream = record {
   handled = 0;
   asked = 0;
   gone = 0;
+  stirred = [];
 }
 
 abbrev pub started : ℕ → List ℕ → List ℕ → List ℕ → Node
@@ -220,9 +221,20 @@ top_after (NotBegun ticket) node = node.top
 top_after (Dialled conn up) node = node.top
 top_after Drains node = node.top
 
+-- First the server's connection is stirred, to which packets may go, and then the call's own.
+abbrev pub entered : Called → Node → Node
+entered (Bytes conn piece) node = stir conn (stir node.server node)
+entered (Took conn count) node = stir conn (stir node.server node)
+entered (Ended conn) node = stir conn (stir node.server node)
+entered (Lost conn) node = stir conn (stir node.server node)
+entered (Begins ticket conn) node = stir conn (stir node.server node)
+entered (NotBegun ticket) node = stir node.server node
+entered (Dialled conn up) node = stir conn (stir node.server node)
+entered Drains node = stir node.server node
+
 -- a call: what it does itself, and then steps until none is left
 abbrev pub Handling : Node → Called → Node → Type 0
-Handling old call new = Settles (called call old) new
+Handling old call new = Settles (called call (entered call old)) new
 
 -- ---- a dial is handed out: the first that waits
 

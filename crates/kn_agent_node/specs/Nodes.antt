@@ -22,6 +22,14 @@ use Rattle.kn_agent_node.specs.Waiting.{is_other_dial}
 abbrev pub on_carrier : (Carrier → Carrier) → Node → Node
 on_carrier f node = record node { carrier = f node.carrier }
 
+-- what is to be written on a connection, or whether it is to be closed, may be other than it was
+abbrev pub stir : ℕ → Node → Node
+stir conn node = record node { stirred = node.stirred ++ conn ∷ [] }
+
+abbrev pub stirred_at : Option ℕ → List ℕ → List ℕ
+stirred_at None numbers = numbers
+stirred_at (Some conn) numbers = numbers ++ conn ∷ []
+
 -- a count that stays at its type's end
 abbrev pub raised : ℕ → ℕ → ℕ
 raised count by = min (count + by) 18446744073709551615
@@ -62,7 +70,7 @@ abbrev pub dial_dropped : ℕ → Option Dialling → Node → Node
 dial_dropped ticket None node = node
 dial_dropped ticket (Some Listed) node = record node { by_ticket = without node.by_ticket ticket; dials = filter (is_other_dial ticket) node.dials }
 dial_dropped ticket (Some HandedOut) node = node
-dial_dropped ticket (Some (Began conn)) node = record node { by_ticket = without node.by_ticket ticket; sides = without node.sides conn }
+dial_dropped ticket (Some (Began conn)) node = record node { by_ticket = without node.by_ticket ticket; sides = without node.sides conn; stirred = node.stirred ++ conn ∷ [] }
 
 -- ---- a destination's bytes, and the end of its connection
 
@@ -79,7 +87,7 @@ written_at None bytes sides = sides
 written_at (Some conn) bytes sides = change sides conn (with_more bytes)
 
 abbrev pub to_destination : ℤ → List ℕ → Node → Node
-to_destination id bytes node = record node { sides = written_at (conn_of node id) bytes node.sides }
+to_destination id bytes node = record node { sides = written_at (conn_of node id) bytes node.sides; stirred = stirred_at (conn_of node id) node.stirred }
 
 -- the connection is to be closed, and what waits for it is dropped
 abbrev pub closed_at : Option ℕ → Members Side → Members Side
@@ -91,7 +99,11 @@ without_id (pos id) by_id = without by_id id
 without_id (negsuc id) by_id = by_id
 
 abbrev pub destination_closed : ℤ → Node → Node
-destination_closed id node = record node { sides = closed_at (conn_of node id) node.sides; by_id = without_id id node.by_id }
+destination_closed id node = record node {
+  sides = closed_at (conn_of node id) node.sides;
+  by_id = without_id id node.by_id;
+  stirred = stirred_at (conn_of node id) node.stirred;
+}
 
 -- ---- outputs
 

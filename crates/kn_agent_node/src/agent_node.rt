@@ -1,4 +1,4 @@
-ghost use Rattle.std.specs.Prelude.{◌≡◌, ◌<◌, ◌≤◌, ◌==◌, ℕ, [], true, false, nat_eq, length, OnOk, IfOk, MatchOption};
+ghost use Rattle.std.specs.Prelude.{◌≡◌, ◌<◌, ◌≤◌, ◌==◌, ℕ, [], ◌∷◌, ◌++◌, true, false, nat_eq, length, OnOk, IfOk, MatchOption};
 ghost use Rattle.std.specs.List.{list_any};
 ghost use Rattle.kn_agent_node.specs.Calls as call;
 ghost use Rattle.kn_agent_node.specs.Calls.{Bytes, Took, Ended, Lost, Begins, NotBegun, Dialled, Drains, Handling};
@@ -7,6 +7,7 @@ ghost use Rattle.kn_agent_node.specs.Answers as answer;
 use crate::node::Node;
 use crate::settling::settle;
 use crate::starting::started;
+use crate::stirring::{enter, enter_at};
 use crate::{answers, calls, handing};
 use kn_edge_core::AgentCore;
 use kn_io::{NoMemory, Text};
@@ -52,7 +53,9 @@ impl AgentNode {
         requires some { (0 < length piece.now) × (length piece.now ≤ 16384) }
         ensures handled { OnOk result (Handling self.old (Bytes conn piece.now) self.new) }
         ensures top { OnOk result (self.new.top ≡ self.old.top) }
+        ensures stirs { OnOk result (answer.Stirs self.old self.new) }
     {
+        enter_at(&mut self.node, conn)?;
         calls::bytes(alloc, &mut self.node, conn, piece)?;
         settle(alloc, &mut self.node)?;
         Ok(())
@@ -63,7 +66,9 @@ impl AgentNode {
         requires { count ≤ length (answer.out_of self.old conn) }
         ensures handled { OnOk result (Handling self.old (Took conn count) self.new) }
         ensures top { OnOk result (self.new.top ≡ self.old.top) }
+        ensures stirs { OnOk result (answer.Stirs self.old self.new) }
     {
+        enter_at(&mut self.node, conn)?;
         calls::took_bytes(alloc, &mut self.node, conn, count)?;
         settle(alloc, &mut self.node)?;
         Ok(())
@@ -73,7 +78,9 @@ impl AgentNode {
     pub fn ended(&mut self, alloc: Global, conn: u64) -> Result<(), NoMemory>
         ensures handled { OnOk result (Handling self.old (Ended conn) self.new) }
         ensures top { OnOk result (self.new.top ≡ self.old.top) }
+        ensures stirs { OnOk result (answer.Stirs self.old self.new) }
     {
+        enter_at(&mut self.node, conn)?;
         calls::ended(alloc, &mut self.node, conn)?;
         settle(alloc, &mut self.node)?;
         Ok(())
@@ -83,7 +90,9 @@ impl AgentNode {
     pub fn lost(&mut self, alloc: Global, conn: u64) -> Result<(), NoMemory>
         ensures handled { OnOk result (Handling self.old (Lost conn) self.new) }
         ensures top { OnOk result (self.new.top ≡ self.old.top) }
+        ensures stirs { OnOk result (answer.Stirs self.old self.new) }
     {
+        enter_at(&mut self.node, conn)?;
         calls::lost(alloc, &mut self.node, conn)?;
         settle(alloc, &mut self.node)?;
         Ok(())
@@ -94,7 +103,9 @@ impl AgentNode {
         requires { self.old.top < conn }
         ensures handled { OnOk result (Handling self.old (Begins ticket conn) self.new) }
         ensures top { OnOk result (self.new.top ≡ conn) }
+        ensures stirs { OnOk result (answer.Stirs self.old self.new) }
     {
+        enter_at(&mut self.node, conn)?;
         calls::began(alloc, &mut self.node, ticket, conn)?;
         settle(alloc, &mut self.node)?;
         Ok(())
@@ -104,7 +115,9 @@ impl AgentNode {
     pub fn not_begun(&mut self, alloc: Global, ticket: u64) -> Result<(), NoMemory>
         ensures handled { OnOk result (Handling self.old (NotBegun ticket) self.new) }
         ensures top { OnOk result (self.new.top ≡ self.old.top) }
+        ensures stirs { OnOk result (answer.Stirs self.old self.new) }
     {
+        enter(&mut self.node)?;
         calls::not_begun(alloc, &mut self.node, ticket)?;
         settle(alloc, &mut self.node)?;
         Ok(())
@@ -114,7 +127,9 @@ impl AgentNode {
     pub fn dialled(&mut self, alloc: Global, conn: u64, up: bool) -> Result<(), NoMemory>
         ensures handled { OnOk result (Handling self.old (Dialled conn up) self.new) }
         ensures top { OnOk result (self.new.top ≡ self.old.top) }
+        ensures stirs { OnOk result (answer.Stirs self.old self.new) }
     {
+        enter_at(&mut self.node, conn)?;
         calls::dialled(alloc, &mut self.node, conn, up)?;
         settle(alloc, &mut self.node)?;
         Ok(())
@@ -124,7 +139,9 @@ impl AgentNode {
     pub fn drain(&mut self, alloc: Global) -> Result<(), NoMemory>
         ensures handled { OnOk result (Handling self.old Drains self.new) }
         ensures top { OnOk result (self.new.top ≡ self.old.top) }
+        ensures stirs { OnOk result (answer.Stirs self.old self.new) }
     {
+        enter(&mut self.node)?;
         calls::drain(alloc, &mut self.node)?;
         settle(alloc, &mut self.node)?;
         Ok(())
@@ -136,6 +153,14 @@ impl AgentNode {
         ensures top { self.new.top ≡ self.old.top }
     {
         handing::next_dial(&mut self.node)
+    }
+
+    /// Takes out one of the connections of which `out` or `shuts` may be other than it was when it was last taken
+    /// out. Takes no memory.
+    pub fn next_stirred(&mut self) -> Option<u64>
+        ensures { MatchOption result ((self.old.stirred ≡ []) × (self.new ≡ self.old)) (λ c. self.old ≡ record self.new { stirred = self.new.stirred ++ c ∷ [] }) }
+    {
+        self.node.stirred.pop()
     }
 
     /// The bytes of a connection are wanted.

@@ -6,6 +6,7 @@ ghost use Rattle.kn_agent_node.specs.Nodes as spec;
 
 use crate::node::Node;
 use crate::side::Side;
+use crate::stirring::stir_at;
 use kn_io::NoMemory;
 use kn_rising::Rising;
 
@@ -55,6 +56,7 @@ pub fn to_destination(node: &mut Node, connect_id: &i64, bytes: &[u8]) -> Result
     ensures { OnOk result (node.new ≡ spec.to_destination connect_id.now bytes.now node.old) }
 {
     let conn = conn_of(node, connect_id);
+    stir_at(&mut node.stirred, conn)?;
     write_at(&mut node.sides, conn, bytes)
 }
 
@@ -75,10 +77,12 @@ fn remove_id(by_id: &mut Rising<u64>, connect_id: &i64)
 }
 
 /// The connection of a destination is to be closed.
-pub fn close_destination(node: &mut Node, connect_id: &i64)
-    ensures { node.new ≡ spec.destination_closed connect_id.now node.old }
+pub fn close_destination(node: &mut Node, connect_id: &i64) -> Result<(), NoMemory>
+    ensures { OnOk result (node.new ≡ spec.destination_closed connect_id.now node.old) }
 {
     let conn = conn_of(node, connect_id);
+    stir_at(&mut node.stirred, conn)?;
     close_at(&mut node.sides, conn);
     remove_id(&mut node.by_id, connect_id);
+    Ok(())
 }

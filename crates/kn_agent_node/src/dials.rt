@@ -25,27 +25,30 @@ pub fn ask_dial(node: &mut Node, ticket: u64, address: Text) -> Result<(), NoMem
     node.dials.push(Request { ticket, address })
 }
 
-fn drop_one(node: &mut Node, ticket: u64, found: Option<Dialling>)
-    ensures { node.new ≡ spec.dial_dropped ticket found node.old }
+fn drop_one(node: &mut Node, ticket: u64, found: Option<Dialling>) -> Result<(), NoMemory>
+    ensures { OnOk result (node.new ≡ spec.dial_dropped ticket found node.old) }
 {
     match found {
-        None => {}
+        None => Ok(()),
         Some(Dialling::Listed) => {
             node.by_ticket.remove(ticket);
             node.dials.remove(ticket);
+            Ok(())
         }
-        Some(Dialling::HandedOut) => {}
+        Some(Dialling::HandedOut) => Ok(()),
         Some(Dialling::Began { conn }) => {
+            node.stirred.add(conn)?;
             node.by_ticket.remove(ticket);
             node.sides.remove(conn);
+            Ok(())
         }
     }
 }
 
 /// A dial is given up.
-pub fn drop_dial(node: &mut Node, ticket: u64)
-    ensures { node.new ≡ spec.dial_dropped ticket (at node.old.by_ticket ticket) node.old }
+pub fn drop_dial(node: &mut Node, ticket: u64) -> Result<(), NoMemory>
+    ensures { OnOk result (node.new ≡ spec.dial_dropped ticket (at node.old.by_ticket ticket) node.old) }
 {
     let found = dialling_at(&node.by_ticket, ticket);
-    drop_one(node, ticket, found);
+    drop_one(node, ticket, found)
 }

@@ -20,6 +20,7 @@ mod sending;
 mod settling;
 mod side;
 mod starting;
+mod stirring;
 mod waiting;
 
 pub use agent_node::AgentNode;

@@ -3,7 +3,7 @@ use crate::requests::Requests;
 use crate::side::Side;
 use kn_edge_core::AgentCore;
 use kn_ends::{Carrier, PacketQueue};
-use kn_rising::Rising;
+use kn_rising::{Rising, Stirred};
 
 /// All that the agent node holds.
 #[derive(Drop)]
@@ -35,4 +35,7 @@ pub struct Node {
     pub asked: u64,
     /// How many dials ended without a connection, and how many connections ended.
     pub gone: u64,
+    /// Connections of which what is to be written, or whether they are to be closed, may be other than it was when
+    /// they were last taken out.
+    pub stirred: Stirred,
 }

@@ -23,14 +23,8 @@ fn give(alloc: Global, node: &mut Node, out: AgentOut) -> Result<(), NoMemory>
         AgentOut::Write { connect_id, bytes } => {
             to_destination(node, &connect_id, bytes.as_slice())
         }
-        AgentOut::CloseDest { connect_id } => {
-            close_destination(node, &connect_id);
-            Ok(())
-        }
-        AgentOut::DropDial { ticket } => {
-            drop_dial(node, ticket);
-            Ok(())
-        }
+        AgentOut::CloseDest { connect_id } => close_destination(node, &connect_id),
+        AgentOut::DropDial { ticket } => drop_dial(node, ticket),
     }
 }
 

@@ -13,7 +13,7 @@ use kn_grpc::{Service, call_head};
 use kn_h2::{Conn, Role};
 use kn_hpack::Headers;
 use kn_io::NoMemory;
-use kn_rising::Rising;
+use kn_rising::{Rising, Stirred};
 use std::alloc::Global;
 
 fn fresh_carrier(alloc: Global) -> Result<Carrier, NoMemory>
@@ -57,6 +57,7 @@ fn new_node(alloc: Global, server: u64, carrier: Carrier, stream: u32) -> Node
         handled: 0,
         asked: 0,
         gone: 0,
+        stirred: Stirred::new(alloc),
     }
 }
 

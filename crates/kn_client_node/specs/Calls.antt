@@ -13,13 +13,14 @@ use Rattle.kn_ends.specs.Carriers.{is_live, is_gone, is_bare, can_begin, with_lo
 use Rattle.kn_ends.specs.Carriers.{out_of as carrier_out, took as carrier_took}
 use Rattle.kn_ends.specs.Queues.{is_empty, total}
 use Rattle.kn_rising.specs.Members.{Members, at, with, change, without, inserted, none}
+use Rattle.kn_rising.specs.Stirring.{is_stirred}
 use Rattle.kn_client_node.specs.declared.side.Side.{Side}
 use Rattle.kn_client_node.specs.declared.tunnel.Tunnel.{Tunnel}
 use Rattle.kn_client_node.specs.declared.ending.Ending.{Ending}
 use Rattle.kn_client_node.specs.declared.node.Node.{Node}
 use Rattle.kn_client_node.specs.Texts as text
 use Rattle.kn_client_node.specs.Streams.{with_stream}
-use Rattle.kn_client_node.specs.Nodes.{queue_len, is_full, is_long, app_of_number, ending, event, any_stream_over}
+use Rattle.kn_client_node.specs.Nodes.{stir, queue_len, is_full, is_long, app_of_number, ending, event, any_stream_over}
 use Rattle.kn_client_node.specs.Steps.{on_carrier, Settles}
 
 -- ---- the start
@@ -42,6 +43,7 @@ fresh_node conn authority = record {
   top = conn;
   handled = 0;
   gone = 0;
+  stirred = [];
 }
 
 -- ---- answers
@@ -100,6 +102,12 @@ bare_of node conn = if conn == node.server then server_is_bare node else true
 -- the server's connection was lost or has failed
 abbrev pub is_server_lost : Node → Bool
 is_server_lost node = not (is_live node.carrier)
+
+-- What is to be written on a connection, and whether it is to be closed, are other than before only where it was stirred; and
+-- none that was is forgotten.
+abbrev pub Stirs : Node → Node → Type 0
+Stirs old new = (c : ℕ) → (is_stirred c old.stirred ≡ true → is_stirred c new.stirred ≡ true)
+    × (is_stirred c new.stirred ≡ false → (out_of new c ≡ out_of old c) × (shuts_of new c ≡ shuts_of old c))
 
 -- ---- an app comes
 
@@ -235,9 +243,21 @@ called (Ended conn) node = if conn == node.server then lose_server node else sid
 called (Lost conn) node = if conn == node.server then lose_server node else side_lost conn node
 called (App conn address) node = app_came conn address node
 
+-- the connection of a call
+abbrev pub own : Called → ℕ
+own (Bytes conn piece) = conn
+own (Took conn count) = conn
+own (Ended conn) = conn
+own (Lost conn) = conn
+own (App conn address) = conn
+
+-- First the server's connection is stirred, to which packets may go, and then the call's own.
+abbrev pub entered : Called → Node → Node
+entered call node = stir (own call) (stir node.server node)
+
 -- a call: what it does itself, and then steps until none is left
 abbrev pub Handling : Node → Called → Node → Type 0
-Handling old call new = Settles (called call old) new
+Handling old call new = Settles (called call (entered call old)) new
 
 -- what was told first to an app that left is handed out
 abbrev pub HandsOut : Node → ℕ → Bool → List ℕ → Node → Type 0

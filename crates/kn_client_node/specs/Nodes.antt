@@ -26,6 +26,14 @@ use Rattle.kn_client_node.specs.declared.ending.Ending.{Ending}
 use Rattle.kn_client_node.specs.declared.node.Node.{Node}
 use Rattle.kn_client_node.specs.Texts as text
 
+-- what is to be written on a connection, or whether it is to be closed, may be other than it was
+abbrev pub stir : ℕ → Node → Node
+stir conn node = record node { stirred = node.stirred ++ conn ∷ [] }
+
+abbrev pub stirred_for : Option Tunnel → List ℕ → List ℕ
+stirred_for None numbers = numbers
+stirred_for (Some t) numbers = numbers ++ t.conn ∷ []
+
 -- ---- pauses
 
 -- how many bytes wait on the stream to the server
@@ -104,7 +112,7 @@ written_to (Some t) bytes sides = change sides t.conn (with_bytes bytes)
 
 -- bytes are to be written to an app
 abbrev pub to_app : ℕ → List ℕ → Node → Node
-to_app app bytes node = record node { sides = written_to (at node.by_app app) bytes node.sides }
+to_app app bytes node = record node { sides = written_to (at node.by_app app) bytes node.sides; stirred = stirred_for (at node.by_app app) node.stirred }
 
 -- the connection belongs to no app any more; what is to be written to it stays
 abbrev pub without_app : Side → Side
@@ -124,6 +132,7 @@ left app conn early error node = record node {
   by_app = without node.by_app app;
   ended = node.ended ++ ending conn early error ∷ [];
   gone = count_up node.gone;
+  stirred = node.stirred ++ conn ∷ [];
 }
 
 -- an app left, and is told an error or the empty text

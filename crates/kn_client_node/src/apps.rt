@@ -7,6 +7,7 @@ ghost use Rattle.kn_client_node.specs.Nodes as spec;
 use crate::ending::Ending;
 use crate::node::Node;
 use crate::side::Side;
+use crate::stirring::stir_for;
 use crate::tunnel::Tunnel;
 use kn_io::{NoMemory, Text};
 use kn_rising::Rising;
@@ -46,6 +47,7 @@ pub fn to_app(node: &mut Node, app: u64, bytes: &[u8]) -> Result<(), NoMemory>
     ensures { OnOk result (node.new ≡ spec.to_app app bytes.now node.old) }
 {
     let tunnel = tunnel_of(&node.by_app, app);
+    stir_for(&mut node.stirred, tunnel)?;
     write_to(&mut node.sides, tunnel, bytes)
 }
 
@@ -76,6 +78,7 @@ fn release(sides: &mut Rising<Side>, conn: u64)
 fn leave(node: &mut Node, app: u64, conn: u64, early: bool, error: Text) -> Result<(), NoMemory>
     ensures { OnOk result (node.new ≡ spec.left app conn early error node.old) }
 {
+    node.stirred.add(conn)?;
     release(&mut node.sides, conn);
     node.by_app.remove(app);
     node.gone = node.gone.saturating_add(1);

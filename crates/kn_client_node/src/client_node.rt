@@ -1,4 +1,4 @@
-ghost use Rattle.std.specs.Prelude.{◌≡◌, ◌==◌, ◌<◌, ◌≤◌, ℕ, nat_eq, [], true, false, length, OnOk, IfOk, MatchOption};
+ghost use Rattle.std.specs.Prelude.{◌≡◌, ◌==◌, ◌<◌, ◌≤◌, ℕ, nat_eq, [], ◌∷◌, ◌++◌, true, false, length, OnOk, IfOk, MatchOption};
 ghost use Rattle.std.specs.List.{list_any};
 ghost use Rattle.kn_client_node.specs.Calls as call;
 ghost use Rattle.kn_client_node.specs.Calls.{Bytes, Took, Ended, Lost, App, Handling, HandsOut};
@@ -10,7 +10,7 @@ use kn_edge_core::ClientCore;
 use kn_ends::{Carrier, Inlets, PacketQueue};
 use kn_h2::{Conn, Role};
 use kn_io::{NoMemory, Text};
-use kn_rising::Rising;
+use kn_rising::{Rising, Stirred};
 use std::alloc::Global;
 use std::marker::Model;
 
@@ -58,6 +58,7 @@ fn fresh_node(alloc: Global, server: u64, authority: &str) -> Result<Node, NoMem
         top: server,
         handled: 0,
         gone: 0,
+        stirred: Stirred::new(alloc),
     })
 }
 
@@ -79,6 +80,7 @@ impl ClientNode {
         requires some { (0 < length piece.now) × (length piece.now ≤ 16384) }
         ensures handled { OnOk result (Handling self.old (Bytes conn piece.now) self.new) }
         ensures top { OnOk result (self.new.top ≡ self.old.top) }
+        ensures stirs { OnOk result (call.Stirs self.old self.new) }
     {
         settled::bytes(alloc, &mut self.node, conn, piece)
     }
@@ -88,6 +90,7 @@ impl ClientNode {
         requires { count ≤ length (call.out_of self.old conn) }
         ensures handled { OnOk result (Handling self.old (Took conn count) self.new) }
         ensures top { OnOk result (self.new.top ≡ self.old.top) }
+        ensures stirs { OnOk result (call.Stirs self.old self.new) }
     {
         settled::took(alloc, &mut self.node, conn, count)
     }
@@ -96,6 +99,7 @@ impl ClientNode {
     pub fn ended(&mut self, alloc: Global, conn: u64) -> Result<(), NoMemory>
         ensures handled { OnOk result (Handling self.old (Ended conn) self.new) }
         ensures top { OnOk result (self.new.top ≡ self.old.top) }
+        ensures stirs { OnOk result (call.Stirs self.old self.new) }
     {
         settled::ended(alloc, &mut self.node, conn)
     }
@@ -104,6 +108,7 @@ impl ClientNode {
     pub fn lost(&mut self, alloc: Global, conn: u64) -> Result<(), NoMemory>
         ensures handled { OnOk result (Handling self.old (Lost conn) self.new) }
         ensures top { OnOk result (self.new.top ≡ self.old.top) }
+        ensures stirs { OnOk result (call.Stirs self.old self.new) }
     {
         settled::lost(alloc, &mut self.node, conn)
     }
@@ -114,6 +119,7 @@ impl ClientNode {
         requires short { length address.now ≤ 1048576 }
         ensures handled { OnOk result (Handling self.old (App conn address.now) self.new) }
         ensures top { OnOk result (self.new.top ≡ conn) }
+        ensures stirs { OnOk result (call.Stirs self.old self.new) }
     {
         settled::app(alloc, &mut self.node, conn, address)
     }
@@ -134,6 +140,14 @@ impl ClientNode {
         ensures { self.new ≡ record self.old { ended = [] } }
     {
         self.node.ended = Endings::new(alloc);
+    }
+
+    /// Takes out one of the connections of which `out` or `shuts` may be other than it was when it was last taken
+    /// out. Takes no memory.
+    pub fn next_stirred(&mut self) -> Option<u64>
+        ensures { MatchOption result ((self.old.stirred ≡ []) × (self.new ≡ self.old)) (λ c. self.old ≡ record self.new { stirred = self.new.stirred ++ c ∷ [] }) }
+    {
+        self.node.stirred.pop()
     }
 
     /// The bytes of a connection are wanted.

@@ -18,6 +18,7 @@ mod sending;
 mod settled;
 mod settling;
 mod side;
+mod stirring;
 mod texts;
 mod tunnel;
 mod waiting;

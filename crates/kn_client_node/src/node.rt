@@ -4,7 +4,7 @@ use crate::tunnel::Tunnel;
 use kn_edge_core::ClientCore;
 use kn_ends::{Carrier, PacketQueue};
 use kn_io::Text;
-use kn_rising::Rising;
+use kn_rising::{Rising, Stirred};
 
 /// All that the client node holds.
 #[derive(Drop)]
@@ -32,4 +32,7 @@ pub struct Node {
     pub handled: u64,
     /// How many apps left the client's list.
     pub gone: u64,
+    /// Connections of which what is to be written, or whether they are to be closed, may be other than it was when
+    /// they were last taken out.
+    pub stirred: Stirred,
 }
