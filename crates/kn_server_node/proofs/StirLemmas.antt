@@ -49,8 +49,8 @@ use Rattle.kn_server_node.proofs.MemberLemmas.{length_set, with_others, change_o
 -- ---- numbers
 
 clash : (b : Bool) → b ≡ true → b ≡ false → ⊥
-clash true yes no = absurd cc
-clash false yes no = absurd cc
+clash true on off = absurd cc
+clash false on off = absurd cc
 
 unlike : (c n : ℕ) → (n ≡ c → ⊥) → eqb c n ≡ false
 unlike c n apart = by_test (eqb c n) refl
