@@ -4,6 +4,7 @@ use Rattle.std.specs.Prelude.{eqb, ltb, nat_eq, ◌||◌, slice_get}
 use Rattle.std.specs.List.{insert, remove, list_any}
 use Rattle.std.proofs.lemmas.Bool.{eqb-true, eqb-false, eq-eqb}
 use Rattle.std.proofs.lemmas.List.{set-set}
+use Rattle.std.proofs.lemmas.List.Edits.{length-insert}
 use Rattle.kn_rising.specs.Members.{Members, AreMembers, place_in, rank_in, at, with, change, changed, inserted, one_more, without}
 use Rattle.kn_rising.proofs.PlaceLemmas.{place-here, place-skip, remove_past}
 
@@ -109,6 +110,32 @@ inserted_others m n d w l e = by_place (ltb (place_in m.numbers n) (length m.num
     by_place : (b : Bool) → at (cond b (with m n w) (one_more m n w)) d ≡ at m d
     by_place true = with_others m.numbers m.items n d w l e
     by_place false = insert_others m.numbers m.items (rank_in m.numbers n) n d w l (rank_within m.numbers n) (λ same. eqb-false d n e (sym same))
+
+-- ---- each number has a member still
+
+remove_same : {T : Type 0} (is : List T) (ns : List ℕ) (i : ℕ) → length is ≡ length ns → length (remove is i) ≡ length (remove ns i)
+remove_same [] [] zero l = refl
+remove_same [] [] (suc i) l = refl
+remove_same [] (n ∷ ns) i l = absurd (omega (arith, l))
+remove_same (x ∷ is) [] i l = absurd (omega (arith, l))
+remove_same (x ∷ is) (n ∷ ns) zero l = omega (arith, l)
+remove_same (x ∷ is) (n ∷ ns) (suc i) l = ap suc (remove_same is ns i (omega (arith, l)))
+
+pub without_same : {T : Type 0} (m : Members T) (n : ℕ) → length m.items ≡ length m.numbers → length (without m n).items ≡ length (without m n).numbers
+without_same m n l = remove_same m.items m.numbers (place_in m.numbers n) l
+
+pub inserted_same : {T : Type 0} (m : Members T) (n : ℕ) (w : T) → length m.items ≡ length m.numbers → length (inserted m n w).items ≡ length (inserted m n w).numbers
+inserted_same m n w l = by_place (ltb (place_in m.numbers n) (length m.numbers))
+  where
+    within : rank_in m.numbers n ≤ length m.numbers
+    within = rank_within m.numbers n
+
+    by_place : (b : Bool) → length (cond b (with m n w) (one_more m n w)).items ≡ length (cond b (with m n w) (one_more m n w)).numbers
+    by_place true = length_set m.items (place_in m.numbers n) w ∙ l
+    by_place false =
+        let items = length-insert m.items (rank_in m.numbers n) w (omega (arith, within, l)) in
+        let numbers = length-insert m.numbers (rank_in m.numbers n) n within in
+        omega (arith, items, numbers, l)
 
 -- ---- a number that is not among them
 

@@ -6,6 +6,7 @@ use Rattle.kn_h2_state.specs.Moves as moves
 use Rattle.kn_ends.specs.declared.carrier.Carrier.{Carrier}
 use Rattle.kn_ends.specs.Carriers.{can_write, after_write, on_conn, Fills}
 use Rattle.kn_rising.specs.Members.{Members, at, with, change, without}
+use Rattle.kn_rising.specs.Stirring.{is_stirred}
 use Rattle.kn_server_node.specs.declared.end.End.{End}
 use Rattle.kn_server_node.specs.declared.end.End.TheVariants.{Streams, Connect}
 use Rattle.kn_server_node.specs.declared.node.Node.{Node}
@@ -13,7 +14,7 @@ use Rattle.kn_server_node.specs.declared.standing.Standing.{Standing}
 use Rattle.kn_server_node.specs.declared.standing.Standing.TheVariants as standing
 use Rattle.kn_server_node.specs.Ends.{on_carrier, inlet_in, may_write, is_over, FilledOne, Filled, FillsAt}
 use Rattle.kn_server_node.specs.Nodes.{on_end}
-use Rattle.kn_server_node.specs.Steps.{Step, Follow, Hear, Handle, Write, Forget, MayDo, after_step, follow, hear, handle, handle_inlet, handle_on, Makes, Reaches}
+use Rattle.kn_server_node.specs.Steps.{Step, Follow, Hear, Handle, Look, Write, Forget, MayDo, after_step, follow, hear, handle, handle_inlet, handle_on, Makes, Reaches}
 use Rattle.kn_ends.specs.declared.inlet.Inlet.{Inlet}
 use Rattle.kn_server_node.specs.Fronts.{IsStanding, IsInletStanding, handle_standing, first_as}
 use Rattle.kn_ends.specs.Queues.{is_empty}
@@ -41,27 +42,27 @@ writes n (m ∷ ms) = Write n m ∷ writes n ms
 abbrev pub in_state : h2.State → Carrier → Carrier
 in_state t c = on_conn (λ s. t) c
 
-pub writes_steps : (node : Node) (n : ℕ) (k : Bool) (c : Carrier) (t : h2.State) (ms : List Move) → at node.ends n ≡ Some (Streams k c) → c.lost ≡ false → moves.Makes c.conn.state ms t
+pub writes_steps : (node : Node) (n : ℕ) (k : Bool) (c : Carrier) (t : h2.State) (ms : List Move) → is_stirred n node.stirred ≡ true → at node.ends n ≡ Some (Streams k c) → c.lost ≡ false → moves.Makes c.conn.state ms t
     → Makes node (writes n ms) (record node { ends = with node.ends n (Streams k (in_state t c)) })
 unfolding after_step can_write
-writes_steps node n k c t [] found live made =
+writes_steps node n k c t [] stirred found live made =
     let same : in_state t c ≡ c = rw made refl in
     let stays : with node.ends n (Streams k (in_state t c)) ≡ node.ends = rw same (with_same node.ends n (Streams k c) found) in
     ap (λ es. record node { ends = es }) stays
-writes_steps node n k c t (m ∷ ms) found live made =
+writes_steps node n k c t (m ∷ ms) stirred found live made =
     let next : Carrier = after_write m c in
     let ends : Members End = with node.ends n (Streams k next) in
     let changed : change node.ends n (on_carrier (after_write m)) ≡ ends = rw found refl in
     let there : at ends n ≡ Some (Streams k next) = at_with node.ends n (Streams k c) (Streams k next) found in
     let rest : Makes (record node { ends = ends }) (writes n ms) (record node { ends = with ends n (Streams k (in_state t next)) })
-    = writes_steps (record node { ends = ends }) n k next t ms there live made.1 in
+    = writes_steps (record node { ends = ends }) n k next t ms stirred there live made.1 in
     let last : with ends n (Streams k (in_state t c)) ≡ with node.ends n (Streams k (in_state t c))
     = with_with node.ends n (Streams k next) (Streams k (in_state t c)) in
-    (rw (found, live) made.0, rw (changed, ← last) rest)
+    ((stirred, rw (found, live) made.0), rw (changed, ← last) rest)
 
 -- what was written on a connection was written by steps
-pub fills_reach : (node : Node) (n : ℕ) (ends : Members End) → FillsAt n node.ends ends → Reaches node (record node { ends = ends })
-fills_reach node n ends filled = by_found (at node.ends n) refl filled
+pub fills_reach : (node : Node) (n : ℕ) (ends : Members End) → is_stirred n node.stirred ≡ true → FillsAt n node.ends ends → Reaches node (record node { ends = ends })
+fills_reach node n ends stirred filled = by_found (at node.ends n) refl filled
   where
     by_lost : (k : Bool) (c d : Carrier) (b : Bool) → c.lost ≡ b → at node.ends n ≡ Some (Streams k c) → Fills c d → (IsTrue b → d ≡ c)
         → ends ≡ with node.ends n (Streams k d) → Reaches node (record node { ends = ends })
@@ -70,7 +71,7 @@ fills_reach node n ends filled = by_found (at node.ends n) refl filled
         ([], ap (λ es. record node { ends = es }) same)
     by_lost k c d false l found fills stays is =
         let state : Streams k d ≡ Streams k (in_state d.conn.state c) = ap (λ (x : Carrier). Streams k x) fills.0 in
-        (writes n fills.1.0, rw (is, state) (writes_steps node n k c d.conn.state fills.1.0 found l fills.1.1))
+        (writes n fills.1.0, rw (is, state) (writes_steps node n k c d.conn.state fills.1.0 stirred found l fills.1.1))
 
     by_end : (e f : End) → at node.ends n ≡ Some e → FilledOne e f → ends ≡ with node.ends n f → Reaches node (record node { ends = ends })
     by_end (Streams k c) f found one is = by_lost k c one.0 c.lost refl found one.1 one.2 (is ∙ ap (λ x. with node.ends n x) one.3)
@@ -90,9 +91,13 @@ pub hear_reaches : (a b : Node) → (a.todo ≡ []) × (is_empty a.told ≡ fals
 unfolding after_step
 hear_reaches a b may is = (Hear ∷ [], (may, is))
 
-pub forget_reaches : (a b : Node) (c : ℕ) → a.todo ≡ [] → a.told ≡ [] → is_over (at a.ends c) ≡ true → b ≡ record a { ends = without a.ends c } → Reaches a b
+pub forget_reaches : (a b : Node) (c : ℕ) → is_stirred c a.stirred ≡ true → a.todo ≡ [] → a.told ≡ [] → is_over (at a.ends c) ≡ true → b ≡ record a { ends = without a.ends c } → Reaches a b
 unfolding after_step
-forget_reaches a b c todo told over is = (Forget c ∷ [], ((todo, told, over), is))
+forget_reaches a b c stirred todo told over is = (Forget c ∷ [], ((stirred, todo, told, over), is))
+
+pub look_reaches : (a b : Node) (c : ℕ) → b ≡ record a { stirred = a.stirred ++ c ∷ [] } → Reaches a b
+unfolding after_step
+look_reaches a b c is = (Look c ∷ [], (tt, is))
 
 pub handle_reaches : (a b : Node) (c s : ℕ) (x : Standing) → MayDo a (Handle c s) → IsStanding (at a.ends c) s x → ((rest : List ℕ) → b ≡ handle_standing c s x rest a) → Reaches a b
 unfolding after_step handle_on

@@ -37,7 +37,7 @@ use Rattle.kn_server_node.specs.Nodes.{on_end, output, outputs, event, to_link, 
 use Rattle.kn_server_node.specs.Callers.{has_no_link, has_no_front, door_up, head_whole, head_came, DoorHears, link_up, front_up, refused_call, over_limit, service_in, call_for, call_came, for_agents_in, opened_by}
 use Rattle.kn_server_node.specs.Ends as one
 use Rattle.kn_server_node.specs.Calls.{wants_of, wants_on, out_of, shuts_of, Called, Opened, Bytes, Took, Lost, HearsBytes, Does, Handling}
-use Rattle.kn_server_node.specs.Steps.{heard, hear, packet_event, handle_packet, handle, handle_inlet, early_event, early_handled, handle_on, lose, follow, Step, Follow, Hear, Handle, Write, Forget, after_step, Makes, Reaches}
+use Rattle.kn_server_node.specs.Steps.{heard, hear, packet_event, handle_packet, handle, handle_inlet, early_event, early_handled, handle_on, lose, follow, Step, Follow, Hear, Handle, Look, Write, Forget, after_step, Makes, Reaches}
 
 by_bool : (n : ℕ) (b : Bool) (x y : Node) → x.top ≡ n → y.top ≡ n → (cond b x y).top ≡ n
 by_bool n true x y p q = p
@@ -147,6 +147,7 @@ unfolding after_step
 step_top node Follow = follow_top node.todo node
 step_top node Hear = hear_top node.told node
 step_top node (Handle c s) = on_top (at node.ends c) c s node
+step_top node (Look c) = refl
 step_top node (Write c m) = refl
 step_top node (Forget c) = refl
 
@@ -176,7 +177,9 @@ same_top : (old new other : Node) → new ≡ other → other.top ≡ old.top �
 same_top old new other is top = ap (λ (x : Node). x.top) is ∙ top
 
 hears_top : (conn : ℕ) (piece : List ℕ) (front : Option ℕ) (e : Option End) (old new : Node) → DoorHears conn piece front e old new → new.top ≡ old.top
-hears_top conn piece None e old new h = same_top old new (head_came conn h.0 (record old { ends = h.2 })) h.4 (head_top conn h.0 (record old { ends = h.2 }))
+hears_top conn piece None e old new h =
+    let heard : Node = record old { ends = h.2; stirred = old.stirred ++ conn ∷ [] } in
+    same_top old new (head_came conn h.0 heard) h.4 (head_top conn h.0 heard)
 hears_top conn piece (Some front) e old new h = same_top old new _ h refl
 
 bytes_top : (conn : ℕ) (piece : List ℕ) (e : Option End) (old new : Node) → HearsBytes conn piece e old new → new.top ≡ old.top

@@ -34,10 +34,7 @@ use Rattle.kn_server_node.specs.Nodes.{on_end, event}
 -- ---- what connections tell is kept in its order
 
 abbrev pub collect : ℕ → Node → Node
-collect conn node = record node {
-  told = node.told ++ tagged conn (events_in (at node.ends conn));
-  ends = change node.ends conn (on_carrier without_events);
-}
+collect conn node = record (on_end conn (on_carrier without_events) node) { told = node.told ++ tagged conn (events_in (at node.ends conn)) }
 
 -- ---- limits
 
@@ -139,7 +136,7 @@ head_came conn (Err NoMemory) node = node
 
 -- more bytes of a head
 abbrev pub HeadHears : ℕ → List ℕ → Option End → Node → Node → Type 0
-HeadHears conn piece end old new = (answer : Result ConnectAnswer ConnectError) × IsGiven answer × (ends : Members End) × HearsHead conn piece end old.ends answer ends × (new ≡ head_came conn answer (record old { ends = ends }))
+HeadHears conn piece end old new = (answer : Result ConnectAnswer ConnectError) × IsGiven answer × (ends : Members End) × HearsHead conn piece end old.ends answer ends × (new ≡ head_came conn answer (record old { ends = ends; stirred = old.stirred ++ conn ∷ [] }))
 
 -- bytes are those of the head until it is whole, and early from then on
 abbrev pub DoorHears : ℕ → List ℕ → Option ℕ → Option End → Node → Node → Type 0

@@ -1,5 +1,5 @@
 -- The calls of the server node.
-use Rattle.std.specs.Prelude.{◌≡◌, ℕ, ◌<◌, nat_lt, Bool, true, false, not, ◌&&◌, List, [], length, Option, Some, None}
+use Rattle.std.specs.Prelude.{◌≡◌, ℕ, ◌<◌, nat_lt, Bool, true, false, not, ◌&&◌, List, [], ◌∷◌, ◌++◌, length, Option, Some, None}
 use Rattle.kn_route.specs.declared.strategy.Strategy.{Strategy}
 use Rattle.kn_server_core.specs.Server as server
 use Rattle.kn_ends.specs.Carriers.{fed_with, is_live}
@@ -27,6 +27,7 @@ start strategies id = record {
   past_fronts = [];
   told = [];
   todo = [];
+  stirred = [];
   handled = 0;
   gone = 0;
   id = id;
@@ -75,7 +76,7 @@ HearsBytes conn piece (Some (Connect d)) old new = DoorHears conn piece d.front 
 
 -- what the call itself does
 abbrev pub Does : Node → Called → Node → Type 0
-Does old (Opened conn kind) new = new ≡ record old { ends = inserted old.ends conn (one.fresh_end kind); top = conn }
+Does old (Opened conn kind) new = new ≡ record old { ends = inserted old.ends conn (one.fresh_end kind); top = conn; stirred = old.stirred ++ conn ∷ [] }
 Does old (Bytes conn piece) new = HearsBytes conn piece (at old.ends conn) old new
 Does old (Took conn count) new = new ≡ on_end conn (one.took count) old
 Does old (Lost conn) new = new ≡ record (on_end conn one.lost old) { todo = losses_at (at old.ends conn) old.todo }

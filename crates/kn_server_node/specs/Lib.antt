@@ -5,6 +5,7 @@ pub mod Nodes
 pub mod Callers
 pub mod Steps
 pub mod Calls
+pub mod Stirs
 pub mod Noting
 pub mod Fronts
 pub mod Least

@@ -28,8 +28,9 @@ use Rattle.kn_server_node.specs.Ends.{given, closed, inlet_in, queued_in, is_doo
 use Rattle.kn_ends.specs.Queues.{is_empty}
 use Rattle.kn_server_node.specs.Losing.{with_loss}
 
+-- the connection of a number changes, and is stirred
 abbrev pub on_end : ℕ → (End → End) → Node → Node
-on_end n f node = record node { ends = change node.ends n f }
+on_end n f node = record node { ends = change node.ends n f; stirred = node.stirred ++ n ∷ [] }
 
 -- ---- pauses
 
@@ -150,8 +151,12 @@ abbrev pub place_changed : Option Place → (ℕ → End → End) → Members En
 place_changed None f ends = ends
 place_changed (Some p) f ends = change ends p.conn (f p.stream)
 
+abbrev pub place_stirred : Option Place → List ℕ → List ℕ
+place_stirred None stirred = stirred
+place_stirred (Some p) stirred = stirred ++ p.conn ∷ []
+
 abbrev pub at_place : Option Place → (ℕ → End → End) → Node → Node
-at_place p f node = record node { ends = place_changed p f node.ends }
+at_place p f node = record node { ends = place_changed p f node.ends; stirred = place_stirred p node.stirred }
 
 abbrev pub is_too_long : Node → ℕ → Packet → Bool
 is_too_long node link p = not (is_data p) && nat_lt 5242880 (link_queue node link)

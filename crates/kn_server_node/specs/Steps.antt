@@ -1,5 +1,5 @@
 -- The steps of the server node.
-use Rattle.std.specs.Prelude.{◌≡◌, ℕ, ℤ, Bool, true, false, List, [], ◌∷◌, Option, Some, None}
+use Rattle.std.specs.Prelude.{◌≡◌, ℕ, ℤ, Bool, true, false, List, [], ◌∷◌, ◌++◌, Option, Some, None}
 use Rattle.kn_packet.specs.declared.packet.Packet.{Packet}
 use Rattle.kn_packet.specs.declared.packet.Packet.TheVariants.{Data}
 use Rattle.kn_grpc.specs.Readers.{First, Less, Whole, Bad}
@@ -12,7 +12,8 @@ use Rattle.kn_ends.specs.declared.who.Who.{Who}
 use Rattle.kn_ends.specs.declared.who.Who.TheVariants as who
 use Rattle.kn_ends.specs.declared.inlet.Inlet.{Inlet}
 use Rattle.kn_ends.specs.Carriers.{on_inlet, after_read, after_write, taken_from, with_end, with_reset}
-use Rattle.kn_rising.specs.Members.{at, without}
+use Rattle.kn_rising.specs.Members.{at, change, without}
+use Rattle.kn_rising.specs.Stirring.{is_stirred}
 use Rattle.kn_server_node.specs.declared.end.End.{End}
 use Rattle.kn_server_node.specs.declared.end.End.TheVariants.{Streams, Connect}
 use Rattle.kn_server_node.specs.declared.loss.Loss.{Loss}
@@ -116,25 +117,30 @@ pub data Step : Type 0 where
   Hear : Step
   -- what stands at the front of a stream
   Handle : ℕ → ℕ → Step
+  -- a connection is stirred, so that it may be written on
+  Look : ℕ → Step
   -- a frame that is due
   Write : ℕ → Move → Step
   -- a connection of which nothing comes any more
   Forget : ℕ → Step
 
 -- Losses that follow come first, then what the connections told, then the least stream with something to handle. Frames are
--- written at any time. A connection is forgotten once nothing follows and nothing was told.
+-- written at any time. A connection is forgotten once nothing follows and nothing was told. Who is written on or forgotten
+-- was stirred.
 abbrev pub MayDo : Node → Step → Type 0
 MayDo node Follow = is_empty node.todo ≡ false
 MayDo node Hear = (node.todo ≡ []) × (is_empty node.told ≡ false)
 MayDo node (Handle c s) = (node.todo ≡ []) × (node.told ≡ []) × (can_handle node c s ≡ true) × ((d t : ℕ) → is_before d t c s ≡ true → can_handle node d t ≡ false)
-MayDo node (Write c m) = may_write (at node.ends c) m ≡ true
-MayDo node (Forget c) = (node.todo ≡ []) × (node.told ≡ []) × (is_over (at node.ends c) ≡ true)
+MayDo node (Look c) = Unit {0}
+MayDo node (Write c m) = (is_stirred c node.stirred ≡ true) × (may_write (at node.ends c) m ≡ true)
+MayDo node (Forget c) = (is_stirred c node.stirred ≡ true) × (node.todo ≡ []) × (node.told ≡ []) × (is_over (at node.ends c) ≡ true)
 
 unfoldable pub after_step : Node → Step → Node
 after_step node Follow = follow node.todo node
 after_step node Hear = hear node.told node
 after_step node (Handle c s) = handle_on (at node.ends c) c s node
-after_step node (Write c m) = on_end c (on_carrier (after_write m)) node
+after_step node (Look c) = record node { stirred = node.stirred ++ c ∷ [] }
+after_step node (Write c m) = record node { ends = change node.ends c (on_carrier (after_write m)) }
 after_step node (Forget c) = record node { ends = without node.ends c }
 
 -- these steps are made one after another, each where it may be made
@@ -145,7 +151,7 @@ Makes old (s ∷ ss) new = MayDo old s × Makes (after_step old s) ss new
 abbrev pub Reaches : Node → Node → Type 0
 Reaches old new = (steps : List Step) × Makes old steps new
 
--- no step may be made
+-- no step may be made but a look
 pub record IsSettled (node : Node) : Type 0 where
   pub followed : node.todo ≡ []
   pub heard : node.told ≡ []
@@ -153,6 +159,6 @@ pub record IsSettled (node : Node) : Type 0 where
   pub written : (c : ℕ) (m : Move) → may_write (at node.ends c) m ≡ false
   pub forgotten : (c : ℕ) → is_over (at node.ends c) ≡ false
 
--- some steps were made, and none is left to make
+-- some steps were made, and none but looks is left to make
 abbrev pub Settles : Node → Node → Type 0
 Settles old new = Reaches old new × IsSettled new

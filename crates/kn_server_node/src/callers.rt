@@ -25,6 +25,7 @@ use std::alloc::Global;
 pub fn collect(alloc: Global, node: &mut Node, conn: u64) -> Result<(), NoMemory>
     ensures { OnOk result (node.new ≡ spec.collect conn node.old) }
 {
+    node.stirred.add(conn)?;
     let events = node.ends.take_events(alloc, conn)?;
     node.told.append(conn, events)
 }
@@ -41,6 +42,7 @@ fn accept(
     ensures { OnOk result (node.new ≡ spec.answered_call conn stream who service node.old) }
 {
     let head = answer_head(alloc, service, node.id.as_str(), 1)?;
+    node.stirred.add(conn)?;
     node.ends.accept(alloc, conn, stream, who, &head)?;
     collect(alloc, node, conn)
 }
@@ -103,6 +105,7 @@ fn refuse(
     ensures { OnOk result (node.new ≡ spec.refused_call conn stream fault node.old) }
 {
     let head = refusal_head(alloc, fault)?;
+    node.stirred.add(conn)?;
     node.ends.refuse(alloc, conn, stream, head)
 }
 
@@ -111,6 +114,7 @@ fn refuse(
 fn turn_away(alloc: Global, node: &mut Node, conn: u64, stream: u32) -> Result<(), NoMemory>
     ensures { OnOk result (node.new ≡ spec.over_limit conn stream node.old) }
 {
+    node.stirred.add(conn)?;
     node.ends.reset(alloc, conn, stream, 7)?;
     collect(alloc, node, conn)
 }

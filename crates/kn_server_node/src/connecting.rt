@@ -1,6 +1,7 @@
 //! Bytes that come on a connection by CONNECT.
 
 ghost use Rattle.std.specs.Prelude.{◌≡◌, false, Some, None, OnOk};
+ghost use Rattle.kn_connect.specs.Replies.{IsReplyStatus};
 ghost use Rattle.kn_rising.specs.Members.{at};
 ghost use Rattle.kn_server_node.specs.declared.end.End.TheVariants.{Connect};
 ghost use Rattle.kn_server_node.specs.declared.door.Door.{Door};
@@ -35,6 +36,7 @@ fn door_up(
     let front = node.core.top_front() + 1;
     node.past_fronts = counting(alloc, &node.ends, &node.past_fronts)?;
     node.fronts.insert(front, Place { conn, stream: 0 })?;
+    node.stirred.add(conn)?;
     node.ends.begin_door(alloc, conn, front, early)?;
     event(alloc, node, ServerEvent::FrontUp { front })?;
     let packet = Packet::DialReq {
@@ -43,6 +45,15 @@ fn door_up(
         random: 0,
     };
     event(alloc, node, ServerEvent::FrontPacket { front, packet })
+}
+
+/// The head is refused.
+fn refuse(alloc: Global, node: &mut Node, conn: u64, status: u32) -> Result<(), NoMemory>
+    requires { IsReplyStatus status }
+    ensures { OnOk result (node.new ≡ on_end conn (on_door (door.refused status)) node.old) }
+{
+    node.stirred.add(conn)?;
+    node.ends.refuse_door(alloc, conn, status)
 }
 
 fn asked(
@@ -55,7 +66,7 @@ fn asked(
     ensures { OnOk result (node.new ≡ spec.head_whole conn target early node.old) }
 {
     if has_no_front(node) {
-        node.ends.refuse_door(alloc, conn, 503)
+        refuse(alloc, node, conn, 503)
     } else {
         door_up(alloc, node, conn, target, early)
     }
@@ -65,10 +76,11 @@ fn asked(
 pub fn head_bytes(alloc: Global, node: &mut Node, conn: u64, piece: &[u8]) -> Result<(), NoMemory>
     ensures { OnOk result (spec.HeadHears conn piece.now (at node.old.ends conn) node.old node.new) }
 {
+    node.stirred.add(conn)?;
     match node.ends.feed_head(alloc, conn, piece) {
         Ok(ConnectAnswer::More) => Ok(()),
         Ok(ConnectAnswer::Head { target, early }) => asked(alloc, node, conn, target, early),
-        Err(ConnectError::Fault(fault)) => node.ends.refuse_door(alloc, conn, fault_status(fault)),
+        Err(ConnectError::Fault(fault)) => refuse(alloc, node, conn, fault_status(fault)),
         Err(ConnectError::NoMemory) => Err(NoMemory),
     }
 }

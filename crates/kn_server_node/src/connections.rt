@@ -72,6 +72,13 @@ impl Connections {
         self.ends.numbers()
     }
 
+    /// What is true of them, for a caller's proof. It does nothing.
+    pub fn holds(&self)
+        ensures { length self.now.items ≡ length self.now.numbers }
+    {
+        self.ends.holds();
+    }
+
     /// A packet waits to be sent on a stream, or comes to a door.
     pub fn give(
         &mut self,

@@ -41,6 +41,7 @@ fn handle_packet(
 ) -> Result<(), NoMemory>
     ensures { OnOk result (node.new ≡ spec.handle_packet conn stream who packet node.old) }
 {
+    node.stirred.add(conn)?;
     node.ends.take(alloc, conn, stream)?;
     node.handled = node.handled.saturating_add(1);
     packet_event(alloc, node, who, packet)
@@ -98,6 +99,7 @@ fn handle_early(
 ) -> Result<(), NoMemory>
     ensures { OnOk result (node.new ≡ spec.early_handled conn front dial.now bytes node.old) }
 {
+    node.stirred.add(conn)?;
     node.ends.drop_early(alloc, conn)?;
     node.handled = node.handled.saturating_add(1);
     early_event(alloc, node, front, dial, bytes)

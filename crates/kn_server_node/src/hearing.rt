@@ -1,7 +1,10 @@
 //! What connections told is heard.
 
 ghost use Rattle.std.specs.Prelude.{◌≡◌, OnOk};
+ghost use Rattle.kn_ends.specs.Carriers.{on_inlet, after_read, with_end, with_reset};
 ghost use Rattle.kn_rising.specs.Members.{at};
+ghost use Rattle.kn_server_node.specs.Ends.{on_carrier};
+ghost use Rattle.kn_server_node.specs.Nodes.{on_end};
 ghost use Rattle.kn_server_node.specs.Steps as spec;
 
 use crate::callers::opened;
@@ -64,6 +67,30 @@ pub fn lose_all(node: &mut Node, conn: u64) -> Result<(), NoMemory>
     }
 }
 
+/// Text of a stream is read.
+fn read(alloc: Global, node: &mut Node, conn: u64, stream: u32) -> Result<(), NoMemory>
+    ensures { OnOk result (node.new ≡ on_end conn (on_carrier (after_read stream)) node.old) }
+{
+    node.stirred.add(conn)?;
+    node.ends.read(alloc, conn, stream)
+}
+
+/// The peer's half of a stream ended.
+fn note_end(alloc: Global, node: &mut Node, conn: u64, stream: u32) -> Result<(), NoMemory>
+    ensures { OnOk result (node.new ≡ on_end conn (on_carrier (on_inlet stream with_end)) node.old) }
+{
+    node.stirred.add(conn)?;
+    node.ends.note_end(alloc, conn, stream)
+}
+
+/// The peer reset a stream.
+fn note_reset(alloc: Global, node: &mut Node, conn: u64, stream: u32) -> Result<(), NoMemory>
+    ensures { OnOk result (node.new ≡ on_end conn (on_carrier (on_inlet stream with_reset)) node.old) }
+{
+    node.stirred.add(conn)?;
+    node.ends.note_reset(alloc, conn, stream)
+}
+
 /// An event that a connection told.
 #[tactic(auto, unfolding(crate::specs::Steps::heard))]
 fn heard(alloc: Global, node: &mut Node, conn: u64, event: H2Event) -> Result<(), NoMemory>
@@ -72,9 +99,9 @@ fn heard(alloc: Global, node: &mut Node, conn: u64, event: H2Event) -> Result<()
     match event {
         H2Event::Opened { stream, headers } => opened(alloc, node, conn, stream, &headers),
         H2Event::Head { .. } => Ok(()),
-        H2Event::Text { stream } => node.ends.read(alloc, conn, stream),
-        H2Event::Ended { stream } => node.ends.note_end(alloc, conn, stream),
-        H2Event::Reset { stream, code: _ } => node.ends.note_reset(alloc, conn, stream),
+        H2Event::Text { stream } => read(alloc, node, conn, stream),
+        H2Event::Ended { stream } => note_end(alloc, node, conn, stream),
+        H2Event::Reset { stream, code: _ } => note_reset(alloc, node, conn, stream),
         H2Event::Away { .. } => Ok(()),
         H2Event::Closed { .. } => lose_all(node, conn),
     }

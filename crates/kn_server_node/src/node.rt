@@ -4,7 +4,7 @@ use crate::place::Place;
 use crate::places::Places;
 use kn_ends::Told;
 use kn_io::Text;
-use kn_rising::Rising;
+use kn_rising::{Rising, Stirred};
 use kn_server_core::ServerCore;
 
 /// All that the server node holds.
@@ -25,6 +25,8 @@ pub struct Node {
     pub told: Told,
     /// Losses that follow from what was done, the next one first.
     pub todo: Losses,
+    /// Connections of which something else may have to be told.
+    pub stirred: Stirred,
     /// How many packets were handled.
     pub handled: u64,
     /// How many fronts ended.

@@ -33,7 +33,10 @@ fn give_at(
     ensures { OnOk result (node.new ≡ spec.at_place place (λ s. given s packet.now) node.old) }
 {
     match place {
-        Some(place) => node.ends.give(alloc, place.conn, place.stream, packet),
+        Some(place) => {
+            node.stirred.add(place.conn)?;
+            node.ends.give(alloc, place.conn, place.stream, packet)
+        }
         None => Ok(()),
     }
 }
@@ -132,7 +135,10 @@ fn close_at(
     ensures { OnOk result (node.new ≡ spec.at_place place (closed status) node.old) }
 {
     match place {
-        Some(place) => node.ends.close(alloc, place.conn, place.stream, status),
+        Some(place) => {
+            node.stirred.add(place.conn)?;
+            node.ends.close(alloc, place.conn, place.stream, status)
+        }
         None => Ok(()),
     }
 }

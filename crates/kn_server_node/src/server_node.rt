@@ -1,6 +1,10 @@
-ghost use Rattle.std.specs.Prelude.{◌≡◌, ◌≤◌, ◌<◌, ℕ, nat_eq, [], length, true, false, Some, OnOk};
+ghost use Rattle.std.specs.Prelude.{◌≡◌, ◌≤◌, ◌<◌, ℕ, nat_eq, [], ◌∷◌, ◌++◌, length, true, false, Some, OnOk, MatchOption};
 ghost use Rattle.std.specs.List.{list_any};
 ghost use Rattle.kn_rising.specs.Members.{at};
+ghost use Rattle.kn_server_node.specs.Doors.{with_early};
+ghost use Rattle.kn_server_node.specs.Ends.{on_door};
+ghost use Rattle.kn_server_node.specs.Nodes.{on_end};
+ghost use Rattle.kn_server_node.specs.Stirs.{Stirs};
 ghost use Rattle.kn_server_node.specs.Calls as spec;
 ghost use Rattle.kn_server_node.specs.Calls.{Opened, Bytes, Took, Lost, Does, Handling};
 
@@ -18,7 +22,7 @@ use crate::settling::settle;
 use crate::{doors, one};
 use kn_ends::Told;
 use kn_io::{NoMemory, Text};
-use kn_rising::Rising;
+use kn_rising::{Rising, Stirred};
 use kn_route::Strategies;
 use kn_server_core::ServerCore;
 use std::alloc::Global;
@@ -42,14 +46,23 @@ impl Model for ServerNode {
 fn stream_bytes(alloc: Global, node: &mut Node, conn: u64, piece: &[u8]) -> Result<(), NoMemory>
     ensures { OnOk result (node.new ≡ spec.fed conn piece.now node.old) }
 {
+    node.stirred.add(conn)?;
     node.ends.feed(alloc, conn, piece)?;
     collect(alloc, node, conn)
+}
+
+fn early_bytes(alloc: Global, node: &mut Node, conn: u64, piece: &[u8]) -> Result<(), NoMemory>
+    ensures { OnOk result (node.new ≡ on_end conn (on_door (with_early piece.now)) node.old) }
+{
+    node.stirred.add(conn)?;
+    node.ends.keep_early(alloc, conn, piece)
 }
 
 fn call_opened(alloc: Global, node: &mut Node, conn: u64, kind: ServerKind) -> Result<(), NoMemory>
     ensures { OnOk result (Does node.old (Opened conn kind) node.new) }
 {
     let end = one::fresh(alloc, kind)?;
+    node.stirred.add(conn)?;
     node.ends.insert(conn, end)?;
     node.top = conn;
     Ok(())
@@ -61,7 +74,7 @@ fn call_bytes(alloc: Global, node: &mut Node, conn: u64, piece: &[u8]) -> Result
     match node.ends.get(conn) {
         Some(End::Streams { .. }) => stream_bytes(alloc, node, conn, piece),
         Some(End::Connect { door }) => match door.front {
-            Some(_front) => node.ends.keep_early(alloc, conn, piece),
+            Some(_front) => early_bytes(alloc, node, conn, piece),
             None => head_bytes(alloc, node, conn, piece),
         },
         None => Ok(()),
@@ -72,6 +85,7 @@ fn call_took(node: &mut Node, conn: u64, count: usize) -> Result<(), NoMemory>
     requires { count ≤ length (spec.out_of node.old conn) }
     ensures { OnOk result (Does node.old (Took conn count) node.new) }
 {
+    node.stirred.add(conn)?;
     node.ends.took(conn, count)
 }
 
@@ -79,6 +93,7 @@ fn call_lost(alloc: Global, node: &mut Node, conn: u64) -> Result<(), NoMemory>
     ensures { OnOk result (Does node.old (Lost conn) node.new) }
 {
     lose_all(node, conn)?;
+    node.stirred.add(conn)?;
     node.ends.lose(alloc, conn)
 }
 
@@ -108,6 +123,7 @@ impl ServerNode {
                 past_fronts: Places::new(alloc),
                 told: Told::new(alloc),
                 todo: Losses::new(alloc),
+                stirred: Stirred::new(alloc),
                 handled: 0,
                 gone: 0,
                 id: server_id,
@@ -120,7 +136,9 @@ impl ServerNode {
         requires { self.old.top < conn }
         ensures handled { OnOk result (Handling self.old (Opened conn kind) self.new) }
         ensures top { OnOk result (self.new.top ≡ conn) }
+        ensures stirs { OnOk result (Stirs self.old self.new) }
     {
+        self.node.ends.holds();
         call_opened(alloc, &mut self.node, conn, kind)?;
         settle(alloc, &mut self.node)
     }
@@ -131,7 +149,9 @@ impl ServerNode {
         requires size { (1 ≤ length piece.now) × (length piece.now ≤ 16384) }
         ensures handled { OnOk result (Handling self.old (Bytes conn piece.now) self.new) }
         ensures top { OnOk result (self.new.top ≡ self.old.top) }
+        ensures stirs { OnOk result (Stirs self.old self.new) }
     {
+        self.node.ends.holds();
         call_bytes(alloc, &mut self.node, conn, piece)?;
         settle(alloc, &mut self.node)
     }
@@ -142,7 +162,9 @@ impl ServerNode {
         requires within { count ≤ length (spec.out_of self.old conn) }
         ensures handled { OnOk result (Handling self.old (Took conn count) self.new) }
         ensures top { OnOk result (self.new.top ≡ self.old.top) }
+        ensures stirs { OnOk result (Stirs self.old self.new) }
     {
+        self.node.ends.holds();
         call_took(&mut self.node, conn, count)?;
         settle(alloc, &mut self.node)
     }
@@ -152,9 +174,19 @@ impl ServerNode {
         requires { conn ≤ self.old.top }
         ensures handled { OnOk result (Handling self.old (Lost conn) self.new) }
         ensures top { OnOk result (self.new.top ≡ self.old.top) }
+        ensures stirs { OnOk result (Stirs self.old self.new) }
     {
+        self.node.ends.holds();
         call_lost(alloc, &mut self.node, conn)?;
         settle(alloc, &mut self.node)
+    }
+
+    /// Takes out one of the connections of which `out` or `shuts` may be other than it was when it was last taken out.
+    /// Takes no memory.
+    pub fn next_stirred(&mut self) -> Option<u64>
+        ensures { MatchOption result ((self.old.stirred ≡ []) × (self.new ≡ self.old)) (λ c. self.old ≡ record self.new { stirred = self.new.stirred ++ c ∷ [] }) }
+    {
+        self.node.stirred.pop()
     }
 
     /// Bytes of the connection are wanted.

@@ -3,6 +3,7 @@
 ghost use Rattle.std.specs.Prelude.{◌≡◌, ℕ, not, [], true, false, Some, OnOk, IfOk};
 ghost use Rattle.kn_h2_state.specs.declared.moves.Move.{Move};
 ghost use Rattle.kn_rising.specs.Members.{at};
+ghost use Rattle.kn_rising.specs.Stirring.{is_stirred};
 ghost use Rattle.kn_server_node.specs.Ends.{may_write, is_over};
 ghost use Rattle.kn_ends.specs.Queues.{is_empty};
 ghost use Rattle.kn_ends.specs.Carriers.{inlet_at};
@@ -59,8 +60,18 @@ fn make(alloc: Global, node: &mut Node, task: Task) -> Result<(), NoMemory>
 
 // ---- writing and forgetting
 
+/// Something else may have to be told of a connection.
+fn look(node: &mut Node, conn: u64) -> Result<(), NoMemory>
+    ensures made { OnOk result (Reaches node.old node.new) }
+    ensures stirred { OnOk result (is_stirred conn node.new.stirred ≡ true) }
+    ensures rest { OnOk result (node.new ≡ record node.old { stirred = node.new.stirred }) }
+{
+    node.stirred.add(conn)
+}
+
 /// What is due is written on a connection.
 fn write(alloc: Global, node: &mut Node, conn: u64) -> Result<(), NoMemory>
+    requires { is_stirred conn node.old.stirred ≡ true }
     ensures made { OnOk result (Reaches node.old node.new) }
     ensures filled { OnOk result ((m : Move) → may_write (at node.new.ends conn) m ≡ false) }
     ensures rest { OnOk result (node.new ≡ record node.old { ends = node.new.ends }) }
@@ -143,6 +154,7 @@ fn forget(node: &mut Node, conn: u64) -> Result<(), NoMemory>
     requires followed { node.old.todo ≡ [] }
     requires heard { node.old.told ≡ [] }
     requires over { is_over (at node.old.ends conn) ≡ true }
+    requires stirred { is_stirred conn node.old.stirred ≡ true }
     ensures { OnOk result (Reaches node.old node.new) }
 {
     node.ends.forget(conn)
@@ -153,6 +165,7 @@ fn leave(node: &mut Node, conn: u64) -> Result<(), NoMemory>
     requires followed { node.old.todo ≡ [] }
     requires heard { node.old.told ≡ [] }
     requires written { (m : Move) → may_write (at node.old.ends conn) m ≡ false }
+    requires stirred { is_stirred conn node.old.stirred ≡ true }
     ensures { OnOk result (Reaches node.old node.new) }
 {
     if is_over(node, conn) {
@@ -168,6 +181,7 @@ fn visit(alloc: Global, node: &mut Node, conn: u64) -> Result<(), NoMemory>
     requires heard { node.old.told ≡ [] }
     ensures { OnOk result (Reaches node.old node.new) }
 {
+    look(node, conn)?;
     write(alloc, node, conn)?;
     rest(node, conn);
     leave(node, conn)

@@ -1,5 +1,6 @@
 use Rattle.std.proofs.lemmas.Result.{on_ok_weaker}
 use Rattle.kn_server_node.specs.Calls.{Bytes}
+use Rattle.kn_server_node.proofs.StirLemmas.{handling_stirs}
 use Rattle.kn_server_node.proofs.TopLemmas.{handling_top}
 use Rattle.kn_server_node.proofs.server_node.ServerNode.bytes.Goals as goal
 
@@ -8,3 +9,7 @@ returns-clause-handled c = rw (← c.self.view_is) (on_ok_weaker c.settle.result
 
 pub returns-clause-top : goal.returns-clause-top
 returns-clause-top c = on_ok_weaker c.settle.result (λ s. rw (← c.self.view_is) (handling_top c.self.inside.node (Bytes c.args.conn c.args.piece.now) c.settle.new.node (c.call_bytes.new.node, c.in_ok-call_bytes.ensures, s))) c.settle.ensures
+
+pub returns-clause-stirs : goal.returns-clause-stirs
+returns-clause-stirs c = on_ok_weaker c.settle.result
+    (λ s. rw (← c.self.view_is) (handling_stirs c.self.inside.node (Bytes c.args.conn c.args.piece.now) c.settle.new.node c.holds.ensures (c.call_bytes.new.node, c.in_ok-call_bytes.ensures, s))) c.settle.ensures
