@@ -95,8 +95,9 @@ fi
 
 # --- an agent that is killed
 
-curl -sS --max-time 20 --limit-rate 1M -o /dev/null --proxytunnel --proxy "http://$connect" \
-    "http://$web/100000000" 2>"$tmp/cut" &
+# What the system's buffers hold already still comes: some megabytes, so curl is not to be slow.
+curl -sS --max-time 20 --limit-rate 50M -o /dev/null --proxytunnel --proxy "http://$connect" \
+    "http://$web/3000000000" 2>"$tmp/cut" &
 download=$!
 python3 -c 'import time; time.sleep(1)'
 stop "$agent"
