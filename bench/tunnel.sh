@@ -1,8 +1,9 @@
 #!/bin/sh
 # bench/tunnel.sh [PROGRAM [SECONDS]]: what a tunnel through the server's gate of CONNECT and one agent carries, beside
 # a connection straight to the destination in the same run: bytes a second each way, microseconds for a byte there and
-# back, tunnels a second that are opened and closed; the processor time of server and agent for each gigabyte; and the
-# server's memory with 100 idle tunnels; and what a tunnel carries with 500 idle ones beside it. All on this machine's loopback. Compare the ratios of one run.
+# back, tunnels a second that are opened and closed; the processor time of server and agent for each gigabyte; the
+# server's memory with 100 idle tunnels; and what a tunnel carries with 500 idle ones beside it. All on this machine's
+# loopback. Compare the ratios of one run.
 here=$(cd "$(dirname "$0")/../examples/processes" && pwd) || exit 1
 . "$here/common.sh"
 seconds=${2:-5}
