@@ -1,18 +1,11 @@
 #!/bin/sh
-# bench/connection.sh: how many megabytes a second go through the two ends of one HTTP/2 connection in one process,
-# from the client's queue to what the server takes: 1 MB on each of 1,000 connections, and 1 GB on one; and how many
-# the same program copies from one vector to another, in pieces of 16,384 bytes as they are queued. It builds the
-# program kn_bench_connection where it is missing.
-top=$(cd "$(dirname "$0")/.." && pwd) || exit 1
-program=$top/crates/kn_bench_connection/out/kn_bench_connection
-
-if [ ! -x "$program" ]; then
-    (cd "$top/crates/kn_bench_connection" && rt run >/dev/null 2>&1)
-    if [ ! -x "$program" ]; then
-        echo "bench: kn_bench_connection could not be built; see 'rt run' in crates/kn_bench_connection" >&2
-        exit 1
-    fi
-fi
+# bench/connection.sh [CONNECTIONS]: how many megabytes a second go through the two ends of one HTTP/2 connection in
+# one process, from the client's queue to what the server takes: 1 MB on each of so many connections (1,000), and as
+# much on one; and how many the same program copies from one vector to another, in pieces of 16,384 bytes as they are
+# queued. It builds the program kn_bench_connection where it is missing or stale.
+. "$(dirname "$0")/built.sh"
+count=${1:-1000}
+built kn_bench_connection
 
 # Megabytes a second of so many bytes, so many times over, in the fastest of ten runs.
 speed() {
@@ -30,8 +23,8 @@ speed() {
     echo $(($2 * $3 * 1000 / best))
 }
 
-few=$(speed connection 1000000 1000) || exit 1
-many=$(speed connection 1000000000 1) || exit 1
-copied=$(speed copy 1000000000 10) || exit 1
-echo "connection: $few MB a second at 1 MB, $many at 1 GB, ratio $((few * 100 / many))/100"
-echo "copy: $copied MB a second, $((copied * 10 / many))/10 times the connection at 1 GB"
+few=$(speed connection 1000000 "$count") || exit 1
+many=$(speed connection "${count}000000" 1) || exit 1
+copied=$(speed copy "${count}000000" 10) || exit 1
+echo "connection: $few MB a second at 1 MB, $many at $count MB, ratio $((few * 100 / many))/100"
+echo "copy: $copied MB a second, $((copied * 10 / many))/10 times the connection at $count MB"

@@ -1,12 +1,12 @@
 #!/bin/sh
-# bench/replay.sh: how long `kn replay default` takes for scripts of 100 and of 600 apps with every kind of close,
-# and the ratio of what an event costs in the two; and how long it takes for the longest script there may be, of
-# 10,000 lines. Each time is that of the fastest runs, without the start of the program.
+# bench/replay.sh [RUNS]: how long `kn replay default` takes for scripts of 100 and of 600 apps with every kind of
+# close, and the ratio of what an event costs in the two; and how long it takes for the longest script there may be, of
+# 10,000 lines. Each time is that of the fastest of five times so many runs (20, ten times more where a run is short),
+# without the start of the program.
 top=$(cd "$(dirname "$0")/.." && pwd) || exit 1
 program=$top/crates/kn/out/kn
-if [ ! -x "$program" ]; then
-    printf '' | "$top/kn" replay default >/dev/null || exit 1
-fi
+runs=${1:-20}
+printf '' | "$top/kn" replay default >/dev/null || exit 1
 tmp=$(mktemp -d) || exit 1
 trap 'rm -r "$tmp"' EXIT
 
@@ -70,7 +70,7 @@ least() {
 }
 
 : >"$tmp/none"
-begin=$(least "$tmp/none" 200) || exit 1
+begin=$(least "$tmp/none" $((runs * 10))) || exit 1
 
 # Nanoseconds an event costs in the script of so many apps and lines; the time of one run is told on the way.
 event_cost() {
@@ -81,8 +81,8 @@ event_cost() {
     echo $(((taken - begin) / events))
 }
 
-few=$(event_cost 100 0 200) || exit 1
-many=$(event_cost 600 0 20) || exit 1
-long=$(event_cost 600 10000 20) || exit 1
+few=$(event_cost 100 0 $((runs * 10))) || exit 1
+many=$(event_cost 600 0 "$runs") || exit 1
+long=$(event_cost 600 10000 "$runs") || exit 1
 echo "an event: $few ns at 100 apps, $many ns at 600, ratio $((many * 100 / few))/100; $long ns in 10,000 lines"
 tail -n 2 "$tmp/report"

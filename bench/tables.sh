@@ -1,14 +1,10 @@
 #!/bin/sh
-# bench/tables.sh: what a round of insert, find and remove costs in the server's tables that hold 100 and 60,000
-# entries, by a million rounds at each, and the ratio of the two. It builds the program kn_bench where it is missing.
-top=$(cd "$(dirname "$0")/.." && pwd) || exit 1
-program=$top/crates/kn_bench/out/kn_bench
-rounds=1000000
-
-if [ ! -x "$program" ]; then
-    (cd "$top/crates/kn_bench" && rt run >/dev/null 2>&1)
-    [ -x "$program" ] || { echo "bench: kn_bench could not be built; see 'rt run' in crates/kn_bench" >&2; exit 1; }
-fi
+# bench/tables.sh [ROUNDS]: what a round of insert, find and remove costs in the server's tables that hold 100 and
+# 60,000 entries, by so many rounds at each (a million), and the ratio of the two. It builds the program kn_bench where
+# it is missing or stale.
+. "$(dirname "$0")/built.sh"
+rounds=${1:-1000000}
+built kn_bench
 
 # Nanoseconds that the words take, the least of three runs.
 least() {
