@@ -10,6 +10,7 @@ is_stale() {
 built() {
     program=$top/crates/$1/out/$1
     is_stale "$program" || return 0
+    rm -f "$program"
     (cd "$top/crates/$1" && rt run >"$top/build.log" 2>&1)
     [ -x "$program" ] && touch "$program"
     if is_stale "$program"; then
