@@ -39,6 +39,8 @@ pub mod DestMoves
 pub mod Fresh
 pub mod FrontLosses
 pub mod InParts
+pub mod JoinedBytes
+pub mod JoinedKeep
 pub mod LinkLosses
 pub mod Outcomes
 pub mod OwnedKept
@@ -64,6 +66,7 @@ pub mod StreamKeeps
 pub mod StreamKept
 pub mod StreamLossKeep
 pub mod StreamLosses
+pub mod StreamNumbers
 pub mod Tables
 pub mod Taken
 pub mod Takes
