@@ -46,6 +46,12 @@ pub mod Outcomes
 pub mod OwnedKept
 pub mod Owners
 pub mod PhaseTables
+pub mod PlaceParts
+pub mod PlacesAgent
+pub mod PlacesClient
+pub mod PlacesKept
+pub mod PlacesServed
+pub mod PlacesServer
 pub mod Queues
 pub mod Replies
 pub mod Runs

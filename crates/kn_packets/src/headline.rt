@@ -8,6 +8,7 @@ ghost use Rattle.kn_packets.specs.Moves.{Makes, Move, start};
 ghost use Rattle.kn_packets.specs.Outcome.{Accounted, AllReached, Delivered, IsClosed, IsEmpty, IsIn, IsQuiet};
 ghost use Rattle.kn_packets.specs.Owned.{Owned};
 ghost use Rattle.kn_packets.specs.Phases.{Phases};
+ghost use Rattle.kn_packets.specs.Places.{Places};
 ghost use Rattle.kn_packets.specs.World.{World};
 
 /// The facts on keys hold, each connection of an agent is of a dial, and the tunnel of each app is where a run of one tunnel leads: so all that is
@@ -27,9 +28,11 @@ pub fn delivered_is_a_prefix()
         → (k : ℕ) → (w.apps k).came ≡ true → (w.apps k).dial ≡ None → (w.apps k).side.got ≡ [] }
 {}
 
-/// Each tunnel is in its tables, its dial's number stands in one place at most, and its bytes fit.
+/// Each tunnel is in its tables, its dial's number stands in one place at most, and its bytes fit. And each packet in a list names what is of that
+/// list: on a link a connectID that was drawn there, on a client's stream the dial of an app of that stream.
 pub fn phases_hold()
     ensures phases { (strategies : List Strategy) (ms : List Move) (w : World) → Makes (start strategies) ms w → Phases w }
+    ensures places { (strategies : List Strategy) (ms : List Move) (w : World) → Makes (start strategies) ms w → Places w }
 {}
 
 /// Every connection on an agent's list has its open entry at the server, a reply or a request to close on the way, lingers, or the server lost the link.
