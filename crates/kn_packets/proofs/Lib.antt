@@ -84,4 +84,5 @@ pub mod TakesRefusal
 pub mod TakesReply
 pub mod TakesRequest
 pub mod Told
+pub mod Uncut
 pub mod UpParts

@@ -22,8 +22,8 @@ pub use client_laws::{
     numbers_and_bounds_are_unseen, streams_lift,
 };
 pub use headline::{
-    connections_are_accounted_for, delivered_is_a_prefix, everything_holds, phases_hold,
-    quiet_closed_worlds_are_empty,
+    connections_are_accounted_for, delivered_is_a_prefix, everything_holds, no_link_is_cut,
+    phases_hold, quiet_closed_worlds_are_empty,
 };
 pub use key_laws::{connections_keep_keys, keys_hold_at_the_start};
 pub use laws::{
