@@ -106,7 +106,7 @@ module _ (w : World) (l : ℕ) (keys : Keys w) (there : not (w.agents l).lost �
       here true false own = h
       here true true own = let none : (w.dials d).cid ≡ None = ap (λ j. (w.dials j).cid) (is_own d own) ∙ it.0.undrawn in let bad : Some c ≡ None = sym h ∙ none in absurd cc
 
-  drawn_is : (d c : ℕ) → (next.dials d).cid ≡ Some c → ((w.dials d).cid ≡ Some c) ⊎ ((d ≡ i) × (c ≡ c0))
+  pub drawn_is : (d c : ℕ) → (next.dials d).cid ≡ Some c → ((w.dials d).cid ≡ Some c) ⊎ ((d ≡ i) × (c ≡ c0))
   drawn_is d c h = here ((w.dials d).link == l) (is_number d x.random) refl h
     where
       here : (b e : Bool) → is_number d x.random ≡ e → cond b (cond e (Some c0) (w.dials d).cid) (w.dials d).cid ≡ Some c → ((w.dials d).cid ≡ Some c) ⊎ ((d ≡ i) × (c ≡ c0))

@@ -1,4 +1,4 @@
--- A step of an agent by which no connection comes: each that is left was there, and no connectID is told.
+-- A step of an agent by which no connection comes: each that is left was there, and no connectID is drawn or told.
 use Rattle.std.proofs.Common.{◌≡◌, ◌==◌, ℕ, ℤ, Bool, true, false, cond, List, [], ◌∷◌, length, Option, Some, None, refl, ap, ◌∙◌, subst}
 use Rattle.std.specs.Prelude.{codes}
 use Rattle.kn_packet.specs.declared.packet.Packet.{Packet}
@@ -47,9 +47,10 @@ none_changed n m g same (c ∷ cs) h = here (is_connection n c) (is_connection m
 pub record Plain (a : AgentState) (s : AgentStep) : Type 0 where
   pub fewer : Fewer a.connections s.state.connections
   pub silent : (d : ℕ) (cid : Option ℕ) → cid_drawn d (from_agent s.outs) cid ≡ cid
+  pub number : s.state.next_connect_id ≡ a.next_connect_id
 
-all_left : (a : AgentState) (s : AgentStep) → s.state.connections ≡ a.connections → ((d : ℕ) (cid : Option ℕ) → cid_drawn d (from_agent s.outs) cid ≡ cid) → Plain a s
-all_left a s same silent = record { fewer = λ n x h. (x, subst (λ xs. first_where (is_connection n) xs ≡ Some x) same h); silent = silent }
+all_left : (a : AgentState) (s : AgentStep) → s.state.connections ≡ a.connections → s.state.next_connect_id ≡ a.next_connect_id → ((d : ℕ) (cid : Option ℕ) → cid_drawn d (from_agent s.outs) cid ≡ cid) → Plain a s
+all_left a s same number silent = record { fewer = λ n x h. (x, subst (λ xs. first_where (is_connection n) xs ≡ Some x) same h); silent = silent; number = number }
 
 plain_if : (a : AgentState) (b : Bool) (s t : AgentStep) → Plain a s → Plain a t → Plain a (cond b s t)
 plain_if a true s t h k = h
@@ -57,27 +58,27 @@ plain_if a false s t h k = k
 
 module _ (a : AgentState) where
   nothing : Plain a (ignored a)
-  nothing = all_left a (ignored a) refl (λ d cid. refl)
+  nothing = all_left a (ignored a) refl refl (λ d cid. refl)
 
-  one_left : (s : AgentStep) (n : ℕ) → s.state.connections ≡ without (is_connection n) a.connections → ((d : ℕ) (cid : Option ℕ) → cid_drawn d (from_agent s.outs) cid ≡ cid) → Plain a s
-  one_left s n is silent = record { fewer = fewer_by a.connections s.state.connections (λ m none. rw is (none_without (is_connection m) (is_connection n) a.connections none)); silent = silent }
+  one_left : (s : AgentStep) (n : ℕ) → s.state.connections ≡ without (is_connection n) a.connections → s.state.next_connect_id ≡ a.next_connect_id → ((d : ℕ) (cid : Option ℕ) → cid_drawn d (from_agent s.outs) cid ≡ cid) → Plain a s
+  one_left s n is number silent = record { fewer = fewer_by a.connections s.state.connections (λ m none. rw is (none_without (is_connection m) (is_connection n) a.connections none)); silent = silent; number = number }
 
   one_changed : (s : AgentStep) (n : ℕ) (g : Connection → Connection) → ((c : Connection) → (g c).connect_id ≡ c.connect_id) → s.state.connections ≡ changed_where (is_connection n) g a.connections
-      → ((d : ℕ) (cid : Option ℕ) → cid_drawn d (from_agent s.outs) cid ≡ cid) → Plain a s
-  one_changed s n g same is silent = record { fewer = fewer_by a.connections s.state.connections (λ m none. rw is (none_changed n m g same a.connections none)); silent = silent }
+      → s.state.next_connect_id ≡ a.next_connect_id → ((d : ℕ) (cid : Option ℕ) → cid_drawn d (from_agent s.outs) cid ≡ cid) → Plain a s
+  one_changed s n g same is number silent = record { fewer = fewer_by a.connections s.state.connections (λ m none. rw is (none_changed n m g same a.connections none)); silent = silent; number = number }
 
   -- ---- the rules
   ended : (z : ℤ) (x : Connection) (error : List ℕ) → Plain a (connection_ended a z x error)
-  ended z x error = one_left (connection_ended a z x error) x.connect_id refl (λ d cid. refl)
+  ended z x error = one_left (connection_ended a z x error) x.connect_id refl refl (λ d cid. refl)
 
   turns : (x : Connection) (g : Connection → Connection) → ((c : Connection) → (g c).connect_id ≡ c.connect_id) → (outs : List AgentOut) → from_agent outs ≡ [] → Plain a (connection_turned a x g outs)
-  turns x g same outs none = one_changed (connection_turned a x g outs) x.connect_id g same refl (λ d cid. rw none refl)
+  turns x g same outs none = one_changed (connection_turned a x g outs) x.connect_id g same refl refl (λ d cid. rw none refl)
 
   asks : (protocol address : List ℕ) (random : ℤ) → Plain a (dial_requested a protocol address random)
   asks protocol address random = plain_if a (is_tcp protocol) (tcp_asked a address random) (told a (refusal (codes "unsupported protocol") random ∷ []))
-      (plain_if a (may_dial a) (dial_begun a address random) (told a (refusal (codes "too many connections") random ∷ [])) (all_left a (dial_begun a address random) refl (λ d cid. refl))
-      (all_left a (told a (refusal (codes "too many connections") random ∷ [])) refl (λ d cid. refl)))
-      (all_left a (told a (refusal (codes "unsupported protocol") random ∷ [])) refl (λ d cid. refl))
+      (plain_if a (may_dial a) (dial_begun a address random) (told a (refusal (codes "too many connections") random ∷ [])) (all_left a (dial_begun a address random) refl refl (λ d cid. refl))
+      (all_left a (told a (refusal (codes "too many connections") random ∷ [])) refl refl (λ d cid. refl)))
+      (all_left a (told a (refusal (codes "unsupported protocol") random ∷ [])) refl refl (λ d cid. refl))
 
   data_at : (z : ℤ) (bytes : List ℕ) (o : Option Connection) → Plain a (data_came a z bytes o)
   data_at z bytes None = nothing
@@ -88,7 +89,7 @@ module _ (a : AgentState) where
       by_state Lingering = nothing
 
   close_at : (z : ℤ) (o : Option Connection) → Plain a (close_requested a z o)
-  close_at z None = all_left a (unknown_close a z) refl (λ d cid. refl)
+  close_at z None = all_left a (unknown_close a z) refl refl (λ d cid. refl)
   close_at z (Some x) = by_state x.state
     where
       by_state : (s : DestState) → Plain a (close_by_state a z x s)
@@ -110,7 +111,7 @@ module _ (a : AgentState) where
   bytes_at z bytes (Some x) = by_state x.state
     where
       by_state : (s : DestState) → Plain a (dest_bytes_by_state a z bytes s)
-      by_state Open = all_left a (dest_bytes_by_state a z bytes Open) refl (λ d cid. refl)
+      by_state Open = all_left a (dest_bytes_by_state a z bytes Open) refl refl (λ d cid. refl)
       by_state Lingering = nothing
 
   end_at : (z : ℤ) (o : Option Connection) → Plain a (dest_ended a z o)
@@ -138,16 +139,16 @@ module _ (a : AgentState) where
 
   refused_at : (o : Option Dial) → Plain a (dial_refused a o)
   refused_at None = nothing
-  refused_at (Some x) = all_left a (dial_refused a (Some x)) refl (λ d cid. refl)
+  refused_at (Some x) = all_left a (dial_refused a (Some x)) refl refl (λ d cid. refl)
 
   pub used_plain : (x : Dial) → Plain a (ids_used_up a x)
-  used_plain x = all_left a (ids_used_up a x) refl (λ d cid. refl)
+  used_plain x = all_left a (ids_used_up a x) refl refl (λ d cid. refl)
 
   pub ignored_plain : Plain a (ignored a)
   ignored_plain = nothing
 
   lost_plain : Plain a (link_lost a)
-  lost_plain = record { fewer = λ n x h. absurd cc; silent = λ d cid. rw (tells_none a.dials a.connections) refl }
+  lost_plain = record { fewer = λ n x h. absurd cc; silent = λ d cid. rw (tells_none a.dials a.connections) refl; number = refl }
 
   -- ---- the events, all but that a dial won its connection
   abbrev pub IsPlain : AgentEvent → Type 0
@@ -171,7 +172,7 @@ module _ (a : AgentState) where
   linked_plain (at_agent.DestFailed z) h = fail_at z (connection_at z a.connections)
   linked_plain at_agent.LinkLost h = lost_plain
   linked_plain at_agent.DrainNow h = plain_if a a.drained (ignored a) (record { state = record a { drained = true }; outs = ToServer Drain ∷ [] }) nothing
-      (all_left a (record { state = record a { drained = true }; outs = ToServer Drain ∷ [] }) refl (λ d cid. refl))
+      (all_left a (record { state = record a { drained = true }; outs = ToServer Drain ∷ [] }) refl refl (λ d cid. refl))
 
   pub step_plain : (e : AgentEvent) → IsPlain e → Plain a (agent.step a e)
   step_plain e h = plain_if a a.lost (ignored a) (linked_step a e) nothing (linked_plain e h)

@@ -9,7 +9,7 @@ use Rattle.kn_tunnel.specs.Steps.{Follows}
 use Rattle.kn_tunnel.proofs.Runs.{reached_followed, reached_start}
 use Rattle.kn_packets.specs.Keys.{Keys}
 use Rattle.kn_packets.specs.Lifts.{Lifts}
-use Rattle.kn_packets.specs.Moves.{AgentDrains, AgentLosesLink, AgentTakes, AppComes, AppEnds, AppFails, AppHands, AppSends, AppWrote, ClientLosesStream, ClientTakes, ConnectComes, ConnectLeaves, ConnectTakes, DestinationEnds, DestinationFails, DestinationHands, DestinationSends, DestinationWrote, DialFailed, DialWon, DropsDown, DropsIn, DropsOut, DropsUp, FrontComes, LinkComes, May, Move, ServerLosesFront, ServerLosesLink, ServerTakesIn, ServerTakesUp, StreamBegins, after, app_is, hands, hands_over, new_app, takes_connect, takes_down, takes_in, takes_out, takes_up}
+use Rattle.kn_packets.specs.Moves.{AgentDrains, AgentLosesLink, AgentTakes, AppComes, AppEnds, AppFails, AppHands, AppSends, AppWrote, ClientLosesStream, ClientTakes, ConnectComes, ConnectLeaves, ConnectTakes, DestinationEnds, DestinationFails, DestinationHands, DestinationSends, DestinationWrote, DialFailed, DialWon, DropsDown, DropsIn, DropsOut, DropsUp, FrontComes, JoinsIn, LinkComes, May, Move, ServerLosesFront, ServerLosesLink, ServerTakesIn, ServerTakesUp, StreamBegins, StreamIsNumbered, after, app_is, hands, hands_over, new_app, takes_connect, takes_down, takes_in, takes_out, takes_up}
 use Rattle.kn_packets.specs.Outcome.{AllReached}
 use Rattle.kn_packets.specs.World.{World, phase_in, tunnel}
 use Rattle.kn_packets.proofs.AgentDials.{failed_lifts, won_lifts}
@@ -33,6 +33,8 @@ use Rattle.kn_packets.proofs.ConnectBegins.{connect_comes_keep}
 use Rattle.kn_packets.proofs.Connections.{app_sends_lifts, connect_comes_lifts, connect_comes_starts, connect_leaves_lifts, connect_takes_lifts, drops_in_lifts, drops_out_lifts, stream_begins_lifts}
 use Rattle.kn_packets.proofs.DestKeep.{ends_keep, fails_keep, hands_keep, wrote_keep}
 use Rattle.kn_packets.proofs.DestMoves.{ends_lift, fails_lift, hands_lift, listed, sends_lift, wrote_lift}
+use Rattle.kn_packets.proofs.JoinedBytes.{joins_lift}
+use Rattle.kn_packets.proofs.JoinedKeep.{joins_keep}
 use Rattle.kn_packets.proofs.ServerComes.{front_comes_keeps, link_comes_keeps}
 use Rattle.kn_packets.proofs.ServerFrontLoss.{front_loss_keeps}
 use Rattle.kn_packets.proofs.ServerLinkLoss.{link_loss_keeps}
@@ -42,6 +44,7 @@ use Rattle.kn_packets.proofs.StreamBegins.{stream_begins_keep}
 use Rattle.kn_packets.proofs.StreamKeeps.{app_sends_keep, connect_hands_keep, connect_leaves_keep, connect_takes_keep, drops_in_keep, drops_out_keep}
 use Rattle.kn_packets.proofs.StreamLossKeep as stream
 use Rattle.kn_packets.proofs.StreamLosses.{stream_loss_lifts}
+use Rattle.kn_packets.proofs.StreamNumbers.{numbered_keeps, numbered_lifts}
 use Rattle.kn_packets.proofs.Taken.{and_first, and_second, not_false}
 use Rattle.kn_packets.proofs.Takes.{in_lifts, up_lifts}
 
@@ -64,6 +67,7 @@ lifts (DestinationWrote d n) w keys may = wrote_lift w d keys (listed w d may.0)
 lifts (DestinationEnds d) w keys may = ends_lift w d keys (listed w d may)
 lifts (DestinationFails d) w keys may = fails_lift w d keys (listed w d may)
 lifts (StreamBegins f c) w keys may = stream_begins_lifts w f c keys may
+lifts (StreamIsNumbered f g) w keys may = numbered_lifts w f g keys may
 lifts (ClientTakes f) w keys may = client_takes_lifts w f keys may
 lifts (ClientLosesStream f left error) w keys may = stream_loss_lifts w f left error keys may
 lifts (AppComes k f n address) w keys may = comes_lift w k f n address keys may
@@ -75,6 +79,7 @@ lifts (AppFails k) w keys may = leaves.fails_lift w k keys may
 lifts (ConnectComes k f address) w keys may = connect_comes_lifts w k f address keys may
 lifts (ConnectTakes f) w keys may = connect_takes_lifts w f keys may
 lifts (ConnectLeaves f left) w keys may = connect_leaves_lifts w f left keys may
+lifts (JoinsIn f) w keys may = joins_lift w f may
 lifts (DropsUp l) w keys may = up_drop_lifts w l may
 lifts (DropsDown l) w keys may = down_drop_lifts w l may
 lifts (DropsIn f) w keys may = drops_in_lifts w f may
@@ -135,6 +140,7 @@ keeps (DestinationWrote d n) w keys may = wrote_keep w d keys (listed w d may.0)
 keeps (DestinationEnds d) w keys may = ends_keep w d keys (listed w d may)
 keeps (DestinationFails d) w keys may = fails_keep w d keys (listed w d may)
 keeps (StreamBegins f c) w keys may = stream_begins_keep w f c keys may
+keeps (StreamIsNumbered f g) w keys may = numbered_keeps w f g keys may
 keeps (ClientTakes f) w keys may = client.takes_keep w f keys may
 keeps (ClientLosesStream f left error) w keys may = stream.loss_keeps w f left error keys may.1 (stream_loss_lifts w f left error keys may)
 keeps (AppComes k f n address) w keys may = comes_keeps k f n address w keys may
@@ -146,6 +152,7 @@ keeps (AppFails k) w keys may = fails_keeps k w keys may
 keeps (ConnectComes k f address) w keys may = connect_comes_keep w k f address keys may
 keeps (ConnectTakes f) w keys may = connect_takes_keep w keys f may
 keeps (ConnectLeaves f left) w keys may = connect_leaves_keep w keys f left may
+keeps (JoinsIn f) w keys may = joins_keep w f keys may
 keeps (DropsUp l) w keys may = up_drop_keeps w l keys may
 keeps (DropsDown l) w keys may = down_drop_keeps w l keys may
 keeps (DropsIn f) w keys may = drops_in_keep w keys f may
@@ -209,6 +216,7 @@ comes (DestinationWrote d n) w keys may k h = inl h
 comes (DestinationEnds d) w keys may k h = inl h
 comes (DestinationFails d) w keys may k h = inl h
 comes (StreamBegins f c) w keys may k h = inl h
+comes (StreamIsNumbered f g) w keys may k h = inl h
 comes (ClientTakes f) w keys may k h = inl (out_apps w f k (w.streams f).down h)
 comes (ClientLosesStream f left error) w keys may k h = inl h
 comes (AppComes a f n address) w keys may k h = new_or_old (AppComes a f n address) w a f n k (false, comes_starts w a f n address keys may) (k == a) refl h
@@ -220,6 +228,7 @@ comes (AppFails a) w keys may k h = inl h
 comes (ConnectComes a f address) w keys may k h = new_or_old (ConnectComes a f address) w a f 0 k (true, inl (connect_comes_starts w a f address)) (k == a) refl h
 comes (ConnectTakes f) w keys may k h = inl (connect_apps w f k (w.streams f).down h)
 comes (ConnectLeaves f left) w keys may k h = inl h
+comes (JoinsIn f) w keys may k h = inl h
 comes (DropsUp l) w keys may k h = inl h
 comes (DropsDown l) w keys may k h = inl h
 comes (DropsIn f) w keys may k h = inl h

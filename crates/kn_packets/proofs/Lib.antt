@@ -39,11 +39,19 @@ pub mod DestMoves
 pub mod Fresh
 pub mod FrontLosses
 pub mod InParts
+pub mod JoinedBytes
+pub mod JoinedKeep
 pub mod LinkLosses
 pub mod Outcomes
 pub mod OwnedKept
 pub mod Owners
 pub mod PhaseTables
+pub mod PlaceParts
+pub mod PlacesAgent
+pub mod PlacesClient
+pub mod PlacesKept
+pub mod PlacesServed
+pub mod PlacesServer
 pub mod Queues
 pub mod Replies
 pub mod Runs
@@ -64,6 +72,7 @@ pub mod StreamKeeps
 pub mod StreamKept
 pub mod StreamLossKeep
 pub mod StreamLosses
+pub mod StreamNumbers
 pub mod Tables
 pub mod Taken
 pub mod Takes
@@ -75,4 +84,5 @@ pub mod TakesRefusal
 pub mod TakesReply
 pub mod TakesRequest
 pub mod Told
+pub mod Uncut
 pub mod UpParts

@@ -53,7 +53,7 @@ undialled w reached k came none = nothing (w.apps k).side.got (rw none at (reach
     nothing (x ∷ xs) h = absurd (cc h.1)
 
 -- ---- lists
-each_in : {E : Type 0} (P : E → Type 0) (x : E) (xs : List E) → Each P xs → IsIn x xs → P x
+pub each_in : {E : Type 0} (P : E → Type 0) (x : E) (xs : List E) → Each P xs → IsIn x xs → P x
 each_in P x xs h it = (each_rear P it.0 (x ∷ it.1) (subst (λ ys. Each P ys) it.2 h)).0
 
 found_in : {E : Type 0} (p : E → Bool) (x : E) (xs : List E) → first_where p xs ≡ Some x → IsIn x xs

@@ -24,7 +24,7 @@ use Rattle.kn_edge_core.specs.declared.connection.Connection.{Connection}
 use Rattle.kn_edge_core.specs.declared.connection.DestState.TheVariants.{Open}
 use Rattle.kn_edge_core.specs.declared.dial.Dial.{Dial}
 use Rattle.kn_packets.specs.Keys.{Keys}
-use Rattle.kn_packets.specs.Moves.{AgentDrains, AgentLosesLink, AgentTakes, AppComes, AppEnds, AppFails, AppHands, AppSends, AppWrote, ClientLosesStream, ClientTakes, ConnectComes, ConnectLeaves, ConnectTakes, DestinationEnds, DestinationFails, DestinationHands, DestinationSends, DestinationWrote, DialFailed, DialWon, DropsDown, DropsIn, DropsOut, DropsUp, FrontComes, LinkComes, May, Move, ServerLosesFront, ServerLosesLink, ServerTakesIn, ServerTakesUp, StreamBegins, after, agent_stepped, app_is, as_taken, cid_number, connection_dial, dest_is, down_is, gets, hands, hands_over, new_dial, takes_connect, takes_down, takes_in, takes_out, takes_up, up_is}
+use Rattle.kn_packets.specs.Moves.{AgentDrains, AgentLosesLink, AgentTakes, AppComes, AppEnds, AppFails, AppHands, AppSends, AppWrote, ClientLosesStream, ClientTakes, ConnectComes, ConnectLeaves, ConnectTakes, DestinationEnds, DestinationFails, DestinationHands, DestinationSends, DestinationWrote, DialFailed, DialWon, DropsDown, DropsIn, DropsOut, DropsUp, FrontComes, JoinsIn, LinkComes, May, Move, ServerLosesFront, ServerLosesLink, ServerTakesIn, ServerTakesUp, StreamBegins, StreamIsNumbered, after, agent_stepped, app_is, as_taken, cid_number, connection_dial, dest_is, down_is, gets, hands, hands_over, new_dial, takes_connect, takes_down, takes_in, takes_out, takes_up, up_is}
 use Rattle.kn_packets.specs.Outputs.{cid_drawn, from_agent}
 use Rattle.kn_packets.specs.Owned.{HasDial, Owned}
 use Rattle.kn_packets.specs.World.{World, WorldDial}
@@ -171,6 +171,7 @@ owned_kept (DestinationWrote d n) w keys may owned = dest_owned (dest_is d (gets
 owned_kept (DestinationEnds d) w keys may owned = dest_owned w (w.dials d).link (at_agent.DestEnd (cid_number (w.dials d).cid)) owned tt
 owned_kept (DestinationFails d) w keys may owned = dest_owned w (w.dials d).link (at_agent.DestFailed (cid_number (w.dials d).cid)) owned tt
 owned_kept (StreamBegins f c) w keys may owned = record { drawn = owned.drawn }
+owned_kept (StreamIsNumbered f g) w keys may owned = record { drawn = owned.drawn }
 owned_kept (ClientTakes f) w keys may owned = out_owned w f owned (w.streams f).down
 owned_kept (ClientLosesStream f left error) w keys may owned = record { drawn = owned.drawn }
 owned_kept (AppComes k f n address) w keys may owned = record { drawn = owned.drawn }
@@ -182,6 +183,7 @@ owned_kept (AppFails k) w keys may owned = record { drawn = owned.drawn }
 owned_kept (ConnectComes k f address) w keys may owned = record { drawn = owned.drawn }
 owned_kept (ConnectTakes f) w keys may owned = connect_owned w f owned (w.streams f).down
 owned_kept (ConnectLeaves f left) w keys may owned = record { drawn = owned.drawn }
+owned_kept (JoinsIn f) w keys may owned = record { drawn = owned.drawn }
 owned_kept (DropsUp l) w keys may owned = record { drawn = owned.drawn }
 owned_kept (DropsDown l) w keys may owned = record { drawn = owned.drawn }
 owned_kept (DropsIn f) w keys may owned = record { drawn = owned.drawn }

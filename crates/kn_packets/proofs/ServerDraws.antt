@@ -129,7 +129,7 @@ module _ (w : World) (f : ℕ) (keys : Keys w) (present : is_present (w.streams 
       here (inl a) = let same : n0 ≡ d = some_dial n0 d (sym a.drawn ∙ h) in let yes : (n0 == d) ≡ true = ap (λ i. n0 == i) (sym same) ∙ eqb_refl n0 in absurd (cc (yes, other))
       here (inr same) = sym same ∙ h
 
-  stays : (k d : ℕ) → (w.apps k).came ≡ true → (w.apps k).dial ≡ Some d → dial_after w random sent k ≡ Some d
+  pub stays : (k d : ℕ) → (w.apps k).came ≡ true → (w.apps k).dial ≡ Some d → dial_after w random sent k ≡ Some d
   stays k d came e = here (by_app k)
     where
       here : Asker k ⊎ (dial_after w random sent k ≡ (w.apps k).dial) → dial_after w random sent k ≡ Some d
@@ -137,16 +137,16 @@ module _ (w : World) (f : ℕ) (keys : Keys w) (present : is_present (w.streams 
       here (inr same) = same ∙ e
 
   -- ---- the dials
-  new_is : (d : ℕ) → (n0 == d) ≡ true → new_dial d sent.outs (w.dials d) ≡ record { link = l; cid = None; side = no_bytes }
+  pub new_is : (d : ℕ) → (n0 == d) ≡ true → new_dial d sent.outs (w.dials d) ≡ record { link = l; cid = None; side = no_bytes }
   new_is d own = rw (ap (λ i. i == n0) (sym (eqb-true n0 d own)) ∙ eqb_refl n0) refl
 
-  old_is : (d : ℕ) → (n0 == d) ≡ false → new_dial d sent.outs (w.dials d) ≡ w.dials d
+  pub old_is : (d : ℕ) → (n0 == d) ≡ false → new_dial d sent.outs (w.dials d) ≡ w.dials d
   old_is d other = rw (other_way n0 d other) refl
 
-  not_new : (d : ℕ) → d < n0 → (n0 == d) ≡ false
+  pub not_new : (d : ℕ) → d < n0 → (n0 == d) ≡ false
   not_new d less = above d n0 less
 
-  by_number : (d : ℕ) → ((n0 == d) ≡ true) ⊎ ((n0 == d) ≡ false)
+  pub by_number : (d : ℕ) → ((n0 == d) ≡ true) ⊎ ((n0 == d) ≡ false)
   by_number d = here (n0 == d) refl
     where
       here : (b : Bool) → (n0 == d) ≡ b → ((n0 == d) ≡ true) ⊎ ((n0 == d) ≡ false)

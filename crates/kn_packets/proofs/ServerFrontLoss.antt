@@ -40,10 +40,10 @@ use Rattle.kn_packets.proofs.ServerKept.{Before, Remains}
 use Rattle.kn_packets.proofs.Tables.{mapped_found}
 
 module _ (w : World) (f : ℕ) (left : List Packet) (keys : Keys w) (front_of : IsFrontOf left (w.streams f).down) where
-  abbrev cut_off : Before
+  abbrev pub cut_off : Before
   cut_off = record (now w) { fronts = λ i. cond (i == f) Gone (w.streams i).front; ins = λ i. cond (i == f) [] (w.streams i).up; outs = λ i. cond (i == f) left (w.streams i).down }
 
-  remains : Remains w cut_off
+  pub remains : Remains w cut_off
   remains = record { ups = λ i. ([], refl); downs = λ i. ([], append-nil (w.links i).down); ins = λ i. ins i (i == f) refl; outs = λ i. outs i (i == f) refl }
     where
       ins : (i : ℕ) (b : Bool) → (i == f) ≡ b → (taken : List Packet) × (taken ++ cond b [] (w.streams i).up ≡ (w.streams i).up)

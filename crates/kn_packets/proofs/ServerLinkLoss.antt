@@ -60,10 +60,10 @@ any_others l i off (x ∷ xs) = here (is_link l x) refl (any_others l i off xs)
     here false other later = ap (λ b. is_link i x || b) later
 
 module _ (w : World) (l : ℕ) (left : List Packet) (keys : Keys w) (front_of : IsFrontOf left (w.links l).down) where
-  abbrev cut_off : Before
+  abbrev pub cut_off : Before
   cut_off = record (now w) { links = λ i. cond (i == l) Gone (w.links i).server; ups = λ i. cond (i == l) [] (w.links i).up; downs = λ i. cond (i == l) left (w.links i).down }
 
-  remains : Remains w cut_off
+  pub remains : Remains w cut_off
   remains = record { ups = λ i. ups i (i == l) refl; downs = λ i. downs i (i == l) refl; ins = λ i. ([], refl); outs = λ i. ([], append-nil (w.streams i).down) }
     where
       ups : (i : ℕ) (b : Bool) → (i == l) ≡ b → (taken : List Packet) × (taken ++ cond b [] (w.links i).up ≡ (w.links i).up)

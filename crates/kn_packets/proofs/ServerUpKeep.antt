@@ -81,7 +81,7 @@ module _ (w : World) (l : ℕ) (keys : Keys w) (present : is_present (w.links l)
   taken i true on = (p ∷ [], sym first ∙ ap (λ j. (w.links j).up) (sym (eqb-true i l on)))
   taken i false off = ([], refl)
 
-  remains : Remains w taken_up
+  pub remains : Remains w taken_up
   remains = record { ups = λ i. taken i (i == l) refl; downs = λ i. ([], append-nil (w.links i).down); ins = λ i. ([], refl); outs = λ i. ([], append-nil (w.streams i).down) }
 
   linked : has_link l w.server.links ≡ true

@@ -39,7 +39,7 @@ use Rattle.kn_packets.proofs.Replies.{IsFor, awaited_gone, awaited_kept, awaited
 use Rattle.kn_packets.proofs.TakesRequest.{not_connect}
 use Rattle.kn_packets.proofs.Taken.{or_false, up_other_taken, up_reply_taken}
 
-reply_item : (dial : ℕ) (cid : Option ℕ) (c random : ℤ) → is_drawn_number cid c ≡ true → up_item dial cid (DialRsp [] c random) ≡ ReplyUp
+pub reply_item : (dial : ℕ) (cid : Option ℕ) (c random : ℤ) → is_drawn_number cid c ≡ true → up_item dial cid (DialRsp [] c random) ≡ ReplyUp
 reply_item dial cid c random e = rw e refl
 
 reply_other : (dial : ℕ) (cid : Option ℕ) (c random : ℤ) → is_drawn_number cid c ≡ false → up_item dial cid (DialRsp [] c random) ≡ OtherUp
@@ -68,7 +68,7 @@ close_down cid c e = rw e refl
 pub not_down : (cid : Option ℕ) (c : ℤ) → is_drawn_number cid c ≡ false → down_item cid (CloseReq c) ≡ OtherDown
 not_down cid c e = rw e refl
 
-held_is : (state : HeldState) (front : Option ℕ) → kinds.is_held (held_entry state front) ≡ true
+pub held_is : (state : HeldState) (front : Option ℕ) → kinds.is_held (held_entry state front) ≡ true
 held_is Open None = refl
 held_is Closing None = refl
 held_is Open (Some f) = refl

@@ -5,4 +5,5 @@ pub mod Outcome
 pub mod Outputs
 pub mod Owned
 pub mod Phases
+pub mod Places
 pub mod World

@@ -259,6 +259,20 @@ new_app stream number = record { came = true; stream = stream; number = number; 
 abbrev pub app_begins : ℕ → WorldApp → World → World
 app_begins k a w = record w { apps = put_at w.apps k a }
 
+-- A client's stream is begun before the server draws the number of its front, in the order in which heads come. So it begins under a number that no
+-- front has, and the stream f is g from the moment at which its front may come up.
+abbrev pub renamed : ℕ → ℕ → ℕ → ℕ
+renamed f g i = if i == f then g else i
+
+abbrev pub no_stream : WorldStream
+no_stream = record { begun = false; connect = false; owner = 0; app = 0; front = Coming; client = false; finished = false; up = []; down = [] }
+
+abbrev pub stream_numbered : ℕ → ℕ → World → World
+stream_numbered f g w = record w {
+  streams = λ i. if i == g then w.streams f else (if i == f then no_stream else w.streams i);
+  apps = λ k. record (w.apps k) { stream = renamed f g (w.apps k).stream };
+}
+
 -- a client loses its stream
 abbrev pub stream_lost : ℕ → List Packet → World → World
 stream_lost f left w = record w {
@@ -306,6 +320,18 @@ abbrev pub hands_over : Bool → ℕ → List ℕ → World → World
 hands_over true k bytes w = connect_hands (w.apps k).stream bytes w
 hands_over false k bytes w = app_does k (λ n. at_client.AppBytes n bytes) w
 
+-- The bytes of a CONNECT connection have no bounds of their own: those of neighbours are those of one packet.
+abbrev pub join_first : Packet → List Packet → List Packet
+join_first (Data c error bytes) (Data d reason more ∷ ps) = Data c error (bytes ++ more) ∷ ps
+join_first p ps = p ∷ ps
+
+unfoldable pub all_joined : List Packet → List Packet
+all_joined [] = []
+all_joined (p ∷ ps) = join_first p (all_joined ps)
+
+abbrev pub joins_in : ℕ → World → World
+joins_in f w = in_is f (all_joined (w.streams f).up) w
+
 -- ---- the moves
 pub data Move : Type 0 where
   -- The server.
@@ -332,6 +358,8 @@ pub data Move : Type 0 where
   DestinationFails : (dial : ℕ) → Move
   -- A client.
   StreamBegins : (stream client : ℕ) → Move
+  -- It gets the number that its front will have.
+  StreamIsNumbered : (stream number : ℕ) → Move
   ClientTakes : (stream : ℕ) → Move
   ClientLosesStream : (stream : ℕ) (left : List Packet) (error : List ℕ) → Move
   -- An app.
@@ -345,6 +373,8 @@ pub data Move : Type 0 where
   ConnectComes : (app stream : ℕ) (address : List ℕ) → Move
   ConnectTakes : (stream : ℕ) → Move
   ConnectLeaves : (stream : ℕ) (left : List Packet) → Move
+  -- Neighbouring bytes on their way to the server join.
+  JoinsIn : (stream : ℕ) → Move
   -- The receiver of a list whose sender ended or lost its side drops what it has not taken.
   DropsUp : (link : ℕ) → Move
   DropsDown : (link : ℕ) → Move
@@ -369,6 +399,7 @@ after (DestinationWrote d n) w = dest_does d (λ c. at_agent.DestWrote c n) (des
 after (DestinationEnds d) w = dest_does d (λ c. at_agent.DestEnd c) w
 after (DestinationFails d) w = dest_does d (λ c. at_agent.DestFailed c) w
 after (StreamBegins f c) w = stream_begins f (new_stream false c 0) w
+after (StreamIsNumbered f g) w = stream_numbered f g w
 after (ClientTakes f) w = takes_out f (w.streams f).down w
 after (ClientLosesStream f left error) w = client_does (w.streams f).owner (at_client.StreamEnded error) (stream_lost f left w)
 after (AppComes k f n address) w = client_does (w.streams f).owner (at_client.AppUp n address) (app_begins k (new_app f n) w)
@@ -380,6 +411,7 @@ after (AppFails k) w = app_does k (λ a. at_client.AppFailed a) w
 after (ConnectComes k f address) w = connect_begins k f address w
 after (ConnectTakes f) w = takes_connect f (w.streams f).down w
 after (ConnectLeaves f left) w = connect_leaves f (in_is f left w)
+after (JoinsIn f) w = joins_in f w
 after (DropsUp l) w = up_is l [] w
 after (DropsDown l) w = down_is l [] w
 after (DropsIn f) w = in_is f [] w
@@ -414,6 +446,7 @@ May (DestinationWrote d n) w = (is_listed (dest_far_in w d) ≡ true) × (n ≤ 
 May (DestinationEnds d) w = is_listed (dest_far_in w d) ≡ true
 May (DestinationFails d) w = is_listed (dest_far_in w d) ≡ true
 May (StreamBegins f c) w = ((w.streams f).begun ≡ false) × HasNoStream c w
+May (StreamIsNumbered f g) w = (is_coming (w.streams f).front && not (w.streams g).begun) ≡ true
 May (ClientTakes f) w = ((w.streams f).client && not (w.streams f).connect) ≡ true
 May (ClientLosesStream f left error) w = (((w.streams f).client && not (w.streams f).connect) ≡ true) × IsFrontOf left (w.streams f).up
 May (AppComes k f n address) w = (((w.streams f).begun && (w.streams f).client && not (w.streams f).connect && not (w.apps k).came) ≡ true)
@@ -426,6 +459,7 @@ May (AppFails k) w = ((w.apps k).came && not (w.streams (w.apps k).stream).conne
 May (ConnectComes k f address) w = (not (w.apps k).came && not (w.streams f).begun) ≡ true
 May (ConnectTakes f) w = ((w.streams f).client && (w.streams f).connect) ≡ true
 May (ConnectLeaves f left) w = (((w.streams f).client && (w.streams f).connect) ≡ true) × IsFrontOf left (w.streams f).up
+May (JoinsIn f) w = (w.streams f).connect ≡ true
 May (DropsUp l) w = (not (is_gone (w.links l).server) && (w.agents l).lost) ≡ true
 May (DropsDown l) w = (is_gone (w.links l).server && not (w.agents l).lost) ≡ true
 May (DropsIn f) w = (not (is_gone (w.streams f).front) && not (w.streams f).client) ≡ true
@@ -439,9 +473,6 @@ Makes old (m ∷ ms) new = May m old × Makes (after m old) ms new
 -- ---- the world at its start: no link, no stream, no app
 abbrev pub no_link : WorldLink
 no_link = record { server = Coming; up = []; down = [] }
-
-abbrev pub no_stream : WorldStream
-no_stream = record { begun = false; connect = false; owner = 0; app = 0; front = Coming; client = false; finished = false; up = []; down = [] }
 
 abbrev pub no_dial : WorldDial
 no_dial = record { link = 0; cid = None; side = no_bytes }

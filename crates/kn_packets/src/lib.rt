@@ -18,11 +18,12 @@ pub use agent_laws::{
 pub use app_laws::{apps_lift, client_losses_lift};
 pub use client_key_laws::clients_keep_keys;
 pub use client_laws::{
-    client_takes_answers_and_bytes, client_takes_packets_lift, connections_lift, streams_lift,
+    client_takes_answers_and_bytes, client_takes_packets_lift, connections_lift,
+    numbers_and_bounds_are_unseen, streams_lift,
 };
 pub use headline::{
-    connections_are_accounted_for, delivered_is_a_prefix, everything_holds, phases_hold,
-    quiet_closed_worlds_are_empty,
+    connections_are_accounted_for, delivered_is_a_prefix, everything_holds, no_link_is_cut,
+    phases_hold, quiet_closed_worlds_are_empty,
 };
 pub use key_laws::{connections_keep_keys, keys_hold_at_the_start};
 pub use laws::{

@@ -1,0 +1,5 @@
+pub mod PacketLemmas
+pub mod PendingLemmas
+pub mod QueueLemmas
+pub mod ResetLemmas
+pub mod StandingLemmas
