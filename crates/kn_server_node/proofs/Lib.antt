@@ -2,6 +2,7 @@ pub mod MemberLemmas
 pub mod NoteLemmas
 pub mod StepLemmas
 pub mod TopLemmas
+pub mod CoreLemmas
 pub mod StirLemmas
 pub mod LeastLemmas
 pub mod LossLemmas

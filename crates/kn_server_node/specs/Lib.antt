@@ -10,3 +10,4 @@ pub mod Noting
 pub mod Fronts
 pub mod Least
 pub mod Tasks
+pub mod CoreEvents
