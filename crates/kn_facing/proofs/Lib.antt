@@ -1,0 +1,2 @@
+pub mod FacingLemmas
+pub mod TakenLemmas

@@ -1,0 +1,40 @@
+-- What two ends that face each other go on to take of each other.
+use Rattle.std.specs.Prelude.{◌≡◌, ℕ, List, ◌++◌, None}
+use Rattle.kn_frames.specs.declared.frame.Frame.{Frame}
+use Rattle.kn_frames.specs.Readers.{after_bytes, frames_in, fault_in}
+use Rattle.kn_h2_state.specs.declared.state.State.{State}
+use Rattle.kn_h2_state.specs.Feeding.{after_frames}
+use Rattle.kn_h2_state.specs.Holding.{Holds}
+use Rattle.kn_h2_state.specs.Preorder.{Accepts, HasRoomFor, HearsMore}
+use Rattle.kn_facing.specs.Ways.{Way, delivered, IsWhole}
+use Rattle.kn_facing.specs.Facing.{coming}
+
+-- ---- frames one behind the other
+
+-- frames that come behind others are looked at once these were read
+abbrev pub AcceptsJoin : Type 0
+AcceptsJoin = (s : State) (fs gs : List Frame) → Accepts s fs → Accepts (after_frames s fs) gs → Accepts s (fs ++ gs)
+
+abbrev pub AcceptsPart : Type 0
+AcceptsPart = (s : State) (fs gs : List Frame) → Accepts s (fs ++ gs) → Accepts s fs × Accepts (after_frames s fs) gs
+
+-- ---- a piece that comes
+
+-- bytes that end between two frames are no fault, however they are cut
+abbrev pub NoFaultBefore : Type 0
+NoFaultBefore = (w : Way) (piece rest : List ℕ) → w.pipe ≡ piece ++ rest → IsWhole w → fault_in (after_bytes w.to.cutter piece).phase ≡ None
+
+-- a piece that is read leaves the rest on its way
+abbrev pub ReadsOn : Type 0
+ReadsOn = (w : Way) (piece rest : List ℕ) → w.pipe ≡ piece ++ rest → w.to.state.failed ≡ None
+    → coming w ≡ frames_in w.to.cutter piece ++ coming (delivered piece rest w)
+
+-- ---- what an end does of its own
+
+-- it still takes what is on its way, and hears at least as much behind it
+pub record StillTakes (s t : State) (fs : List Frame) : Type 0 where
+  pub accepts : Accepts t fs
+  pub more : HearsMore (after_frames s fs) (after_frames t fs)
+
+abbrev pub OwnStepsTake : Type 0
+OwnStepsTake = (s t : State) (fs : List Frame) → Holds s → Holds t → HearsMore s t → HasRoomFor s fs → HasRoomFor t fs → Accepts s fs → StillTakes s t fs

@@ -1,0 +1,4 @@
+pub mod Ways
+pub mod Facing
+pub mod Laws
+pub mod Taken

@@ -1,0 +1,45 @@
+ghost use Rattle.kn_facing.specs.Taken.{DataIsTaken, LastDataIsTaken, RequestIsTaken, ResponseIsTaken, TrailersAreTaken, ResetIsTaken, GrantIsTaken, StreamGrantIsTaken, ClientSettingsAreTaken, ServerSettingsAreTaken, AcknowledgementIsTaken};
+ghost use Rattle.kn_facing.specs.Laws.{AcceptsJoin, AcceptsPart, NoFaultBefore, ReadsOn, OwnStepsTake};
+
+/// Frames that come behind others are looked at once these were read.
+pub fn frames_are_taken_in_turn()
+    ensures join { AcceptsJoin }
+    ensures part { AcceptsPart }
+{}
+
+/// A piece of what is on its way is no fault where all of it ends between two frames, and leaves the rest on
+/// its way.
+pub fn pieces_are_read()
+    ensures sound { NoFaultBefore }
+    ensures rest { ReadsOn }
+{}
+
+/// What an end does of its own leaves it taking all that is on its way, and hearing at least as much behind it.
+pub fn own_steps_take()
+    ensures { OwnStepsTake }
+{
+    kn_h2_state::more_is_heard();
+}
+
+/// Text of ours is taken: it fits the windows, and the half is open.
+pub fn text_is_taken()
+    ensures goes_on { DataIsTaken }
+    ensures ends { LastDataIsTaken }
+{}
+
+/// The head of a call, that of an answer, and what ends one break no rule, each in one frame.
+pub fn heads_are_taken()
+    ensures requests { RequestIsTaken }
+    ensures responses { ResponseIsTaken }
+    ensures trailers { TrailersAreTaken }
+{}
+
+/// Nor do the other frames that our ends write: resets, grants, SETTINGS, and what acknowledges these.
+pub fn other_frames_are_taken()
+    ensures resets { ResetIsTaken }
+    ensures grants { GrantIsTaken }
+    ensures stream_grants { StreamGrantIsTaken }
+    ensures client { ClientSettingsAreTaken }
+    ensures server { ServerSettingsAreTaken }
+    ensures acknowledged { AcknowledgementIsTaken }
+{}

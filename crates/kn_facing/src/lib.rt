@@ -1,0 +1,10 @@
+//! Two ends of one HTTP/2 connection that face each other: what an end writes, the other takes.
+//! It has no code that runs: its functions are laws.
+#![tactic(auto)]
+
+mod laws;
+
+pub use laws::{
+    frames_are_taken_in_turn, heads_are_taken, other_frames_are_taken, own_steps_take,
+    pieces_are_read, text_is_taken,
+};
