@@ -1,2 +1,4 @@
 pub mod FacingLemmas
+pub mod FollowedLemmas
+pub mod RoomLemmas
 pub mod TakenLemmas

@@ -1,13 +1,18 @@
 -- What two ends that face each other go on to take of each other.
-use Rattle.std.specs.Prelude.{◌≡◌, ℕ, List, ◌++◌, None}
+use Rattle.std.specs.Prelude.{◌≡◌, ℕ, ◌+◌, ◌*◌, ◌≤◌, not, List, ◌++◌, None}
+use Rattle.std.specs.List.{AllByRecursion}
 use Rattle.kn_frames.specs.declared.frame.Frame.{Frame}
+use Rattle.kn_frames.specs.Frames.{IsWithinLimits}
 use Rattle.kn_frames.specs.Readers.{after_bytes, frames_in, fault_in}
 use Rattle.kn_h2_state.specs.declared.state.State.{State}
 use Rattle.kn_h2_state.specs.Feeding.{after_frames}
+use Rattle.kn_h2_state.specs.Limits.{reply_limit}
+use Rattle.kn_h2_state.specs.Outgoing.{reply_bytes}
+use Rattle.kn_h2_state.specs.Rules.{is_client}
 use Rattle.kn_h2_state.specs.Holding.{Holds}
 use Rattle.kn_h2_state.specs.Preorder.{Accepts, HasRoomFor, HearsMore}
 use Rattle.kn_facing.specs.Ways.{Way, delivered, IsWhole}
-use Rattle.kn_facing.specs.Facing.{coming}
+use Rattle.kn_facing.specs.Facing.{coming, asking, IsFollowed}
 
 -- ---- frames one behind the other
 
@@ -38,3 +43,21 @@ pub record StillTakes (s t : State) (fs : List Frame) : Type 0 where
 
 abbrev pub OwnStepsTake : Type 0
 OwnStepsTake = (s t : State) (fs : List Frame) → Holds s → Holds t → HearsMore s t → HasRoomFor s fs → HasRoomFor t fs → Accepts s fs → StillTakes s t fs
+
+-- what the other end may write next is still taken where this one hears at least as much
+abbrev pub StaysFollowed : Type 0
+StaysFollowed = (s t u : State) → Holds s → is_client t.role ≡ not (is_client s.role) → HearsMore t u → IsFollowed s t → IsFollowed s u
+
+-- ---- replies
+
+-- all of them are read: nothing fails, and each that asks adds 17 bytes of reply frames at most
+pub record AreRead (s : State) (fs : List Frame) : Type 0 where
+  pub room : HasRoomFor s fs
+  pub goes : (after_frames s fs).failed ≡ None
+  pub replies : reply_bytes (after_frames s fs).out ≤ reply_bytes s.out + 17 * asking fs
+
+-- Frames that break no rule are read where there is room for the replies that they may ask for, and one stream was
+-- opened at most.
+abbrev pub FewAreRead : Type 0
+FewAreRead = (s : State) (fs : List Frame) → Holds s → s.failed ≡ None → AllByRecursion IsWithinLimits fs → Accepts s fs
+    → reply_bytes s.out + 17 * asking fs ≤ reply_limit → (after_frames s fs).opened ≤ 1 → AreRead s fs

@@ -1,5 +1,5 @@
 ghost use Rattle.kn_facing.specs.Taken.{DataIsTaken, LastDataIsTaken, RequestIsTaken, ResponseIsTaken, TrailersAreTaken, ResetIsTaken, GrantIsTaken, StreamGrantIsTaken, ClientSettingsAreTaken, ServerSettingsAreTaken, AcknowledgementIsTaken};
-ghost use Rattle.kn_facing.specs.Laws.{AcceptsJoin, AcceptsPart, NoFaultBefore, ReadsOn, OwnStepsTake};
+ghost use Rattle.kn_facing.specs.Laws.{AcceptsJoin, AcceptsPart, NoFaultBefore, ReadsOn, OwnStepsTake, StaysFollowed, FewAreRead};
 
 /// Frames that come behind others are looked at once these were read.
 pub fn frames_are_taken_in_turn()
@@ -43,3 +43,17 @@ pub fn other_frames_are_taken()
     ensures server { ServerSettingsAreTaken }
     ensures acknowledged { AcknowledgementIsTaken }
 {}
+
+/// What the other end may write next is still taken once this one hears at least as much.
+pub fn followed_stays()
+    ensures { StaysFollowed }
+{}
+
+/// Frames that break no rule are all read: the replies that they may ask for have room, and no stream is one too
+/// many.
+pub fn few_are_read()
+    ensures { FewAreRead }
+{
+    kn_h2_state::opened_is_above();
+    kn_h2::frames_keep();
+}
