@@ -35,6 +35,7 @@ stays_followed s t u holds other h f = record {
     half n a b' at_s opened (inr (client, above, low)) =
         let below = f.begun client in
         absurd (is_known s.opened n s.streams a holds.rising at_s (omega (arith, below, above)))
+
     head : is_client t.role ≡ true → (n : ℕ) (a b' : Stream) → stream_at s.streams n ≡ Some a → IsOpenIn t n b' ⊎ IsNewTo t u n b' → b'.answered ≡ a.answered
     head client n a b' at_s (inl (b, at_t, up, much)) = much.head client ∙ f.heads client n a b at_s at_t up
     head client n a b' at_s (inr (new, above, low)) =

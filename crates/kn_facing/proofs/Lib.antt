@@ -1,4 +1,5 @@
 pub mod FacingLemmas
 pub mod FollowedLemmas
 pub mod RoomLemmas
+pub mod SumLemmas
 pub mod TakenLemmas

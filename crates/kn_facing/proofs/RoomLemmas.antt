@@ -57,6 +57,7 @@ one_reply s t bytes on room short q = by_test (nat_lt reply_limit (reply_bytes t
   where
     same_bytes : reply_bytes t.out ≡ reply_bytes s.out
     same_bytes = ap (λ (o : Out). reply_bytes o) q.out
+
     by_test : (b : Bool) → nat_lt reply_limit (reply_bytes t.out + length bytes) ≡ b → Replied 17 s (if b then fail 11 t else record t { out = put t.out true bytes })
     by_test true e = let over = ltb-true reply_limit (reply_bytes t.out + length bytes) e in let k = same_bytes in absurd (omega (arith, over, k, room, short))
     by_test false e = let more = replies_more t.out bytes in let k = same_bytes in record { goes = q.failed ∙ on; few = omega (arith, more, k, short) }
@@ -243,20 +244,21 @@ by_effect f s on room wrong =
     chosen P (f.kind == 0) (data_of f s (stream_at s.streams f.stream)) _ (λ e. quiet k s _ on (data_quiet f s (stream_at s.streams f.stream)))
     (λ e0. chosen P ((f.kind == 1) || (f.kind == 9)) (block_of_headers f s) _
     (λ e. let a : asks f ≡ true = asks_block (f.kind == 1) (f.kind == 9) (f.kind == 4) (f.kind == 6) (has f 1) e in
-        subst (λ (b : Bool). Replied (most b) s (block_of_headers f s)) (sym a) (by_block f s (record { on = on; room = room a })))
+    subst (λ (b : Bool). Replied (most b) s (block_of_headers f s)) (sym a) (by_block f s (record { on = on; room = room a })))
     (λ e1. chosen P (f.kind == 3) (if_open (stream_at s.streams f.stream) s (λ st. reset_of f st s)) _
     (λ e. open_or P (stream_at s.streams f.stream) s (λ st. reset_of f st s) (quiet k s s on (same s)) (λ st. quiet k s (reset_of f st s) on (reset_quiet f st s)))
     (λ e3. chosen P (f.kind == 4) (settings f s) _
     (λ e. let a : asks f ≡ not (has f 1) = asks_settings (f.kind == 1) (f.kind == 9) (f.kind == 4) (f.kind == 6) (has f 1) e1 e in
-        asks_with f s (settings f s) a (by_settings f s on (λ (h : has f 1 ≡ false). room (a ∙ ap not h))))
+    asks_with f s (settings f s) a (by_settings f s on (λ (h : has f 1 ≡ false). room (a ∙ ap not h))))
     (λ e4. chosen P (f.kind == 6) (ping f s) _
     (λ e. let a : asks f ≡ not (has f 1) = asks_ping (f.kind == 1) (f.kind == 9) (f.kind == 4) (f.kind == 6) (has f 1) e1 e in
-        asks_with f s (ping f s) a (by_ping f s (ping_length f wrong e) on (λ (h : has f 1 ≡ false). room (a ∙ ap not h))))
+    asks_with f s (ping f s) a (by_ping f s (ping_length f wrong e) on (λ (h : has f 1 ≡ false). room (a ∙ ap not h))))
     (λ e6. either P (f.kind == 7) (goaway f s) _ (quiet k s (goaway f s) on (goaway_quiet f s))
     (either P (f.kind == 8) (window_update f s) s (quiet k s (window_update f s) on (update_quiet f s)) (quiet k s s on (same s))))))))
   where
     k : ℕ
     k = most (asks f)
+
     P : State → Type 0
     P t = Replied (most (asks f)) s t
 

@@ -1,4 +1,5 @@
 pub mod Ways
 pub mod Facing
 pub mod Laws
+pub mod Sums
 pub mod Taken

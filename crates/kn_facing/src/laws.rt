@@ -1,4 +1,5 @@
 ghost use Rattle.kn_facing.specs.Taken.{DataIsTaken, LastDataIsTaken, RequestIsTaken, ResponseIsTaken, TrailersAreTaken, ResetIsTaken, GrantIsTaken, StreamGrantIsTaken, ClientSettingsAreTaken, ServerSettingsAreTaken, AcknowledgementIsTaken};
+ghost use Rattle.kn_facing.specs.Sums.{FramesTake, FramesGrant};
 ghost use Rattle.kn_facing.specs.Laws.{AcceptsJoin, AcceptsPart, NoFaultBefore, ReadsOn, OwnStepsTake, StaysFollowed, FewAreRead};
 
 /// Frames that come behind others are looked at once these were read.
@@ -56,4 +57,14 @@ pub fn few_are_read()
 {
     kn_h2_state::opened_is_above();
     kn_h2::frames_keep();
+}
+
+/// A frame that breaks no rule takes of what may come on a stream what its DATA has, and adds to what may go what
+/// it grants: for a stream that is not begun yet both are whole.
+pub fn frames_move_windows()
+    ensures takes { FramesTake }
+    ensures grants { FramesGrant }
+{
+    kn_h2_state::opened_is_above();
+    kn_h2::windows_follow();
 }
