@@ -1,5 +1,9 @@
+pub mod CarryLemmas
 pub mod FacingLemmas
 pub mod FollowedLemmas
+pub mod OwnSumLemmas
+pub mod ReadLemmas
 pub mod RoomLemmas
+pub mod SteadyLemmas
 pub mod SumLemmas
 pub mod TakenLemmas

@@ -35,9 +35,9 @@ use Rattle.kn_facing.specs.Laws.{FewAreRead}
 -- ---- replies to one frame
 
 -- it goes on, with so many bytes of reply frames more at most
-record Replied (k : ℕ) (s t : State) : Type 0 where
-  goes : t.failed ≡ None
-  few : reply_bytes t.out ≤ reply_bytes s.out + k
+pub record Replied (k : ℕ) (s t : State) : Type 0 where
+  pub goes : t.failed ≡ None
+  pub few : reply_bytes t.out ≤ reply_bytes s.out + k
 
 -- neither what waits nor a failure is touched
 record Quiet (s t : State) : Type 0 where
@@ -224,7 +224,7 @@ asks_ping false false false true h e k = refl
 asks_ping false false c false h e k = absurd cc
 
 -- how many bytes of replies a frame may ask for
-abbrev most : Bool → ℕ
+abbrev pub most : Bool → ℕ
 most b = 17 * (if b then 1 else 0)
 
 plain_most : (b : Bool) → (if b then 17 else 0) ≡ most b
@@ -264,7 +264,7 @@ by_effect f s on room wrong =
 
 -- ---- a frame that breaks no rule
 
-few_replies : (s : State) (f : Frame) → s.failed ≡ None → verdict s f ≡ None → reply_bytes s.out + most (asks f) ≤ reply_limit → Replied (most (asks f)) s (after_frame s f)
+pub few_replies : (s : State) (f : Frame) → s.failed ≡ None → verdict s f ≡ None → reply_bytes s.out + most (asks f) ≤ reply_limit → Replied (most (asks f)) s (after_frame s f)
 few_replies s f on v room =
     let to : after_frame s f ≡ effect (record s { began = true }) f = after_frame-judged s f on ∙ ap (λ o. judged s f o) v in
     let full : asks f ≡ true → reply_bytes s.out + 17 ≤ reply_limit = λ a. subst (λ (b : Bool). reply_bytes s.out + most b ≤ reply_limit) a room in
@@ -278,7 +278,7 @@ unfolding Rising
 up_to low high [] r = r
 up_to low high (st ∷ ss) (above, odd, r) = let rest = up_to st.number high ss r in omega (arith, rest, above)
 
-one_open : (high : ℕ) (ss : List Stream) → Rising 0 high ss → high ≤ 1 → open_count ss < stream_limit
+pub one_open : (high : ℕ) (ss : List Stream) → Rising 0 high ss → high ≤ 1 → open_count ss < stream_limit
 unfolding Rising
 one_open high [] r one = omega arith
 one_open high (st ∷ []) r one = by_test (is_open st)
@@ -290,7 +290,7 @@ one_open high (st ∷ more ∷ ss) (first, odd, (second, other, r)) one = let re
 
 -- ---- all of them
 
-abbrev Keeps : Type 0
+abbrev pub Keeps : Type 0
 Keeps = (s : State) (f : Frame) → Holds s → IsWithinLimits f → Holds (after_frame s f)
 
 pub opened_on : FramesOpenAbove → Keeps → (s : State) (fs : List Frame) → Holds s → AllByRecursion IsWithinLimits fs → s.opened ≤ (after_frames s fs).opened

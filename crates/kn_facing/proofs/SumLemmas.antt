@@ -228,11 +228,11 @@ back_down : (x a r : ℤ) (k i : ℕ) → x ≡ a → a ≡ ((r +ℤ pos k) +ℤ
 back_down x a r k i e g = omega (arith, ints, e, g)
 
 pub frames_take : FramesOpenAbove → FramesShift → FramesTake
-frames_take above shift t f n y holds on v some (inr (low, whole)) =
+frames_take above shift t f n y holds on v (inr (low, whole)) =
     let raise = (above t f holds).opened in
     let below : t.opened < n = omega (arith, raise, low) in
     inr (below, no_more y (pos stream_window) (data_length n f) (young_data t f n v below) whole)
-frames_take above shift t f n y holds on v some (inl (b, found, up, is)) = by_before (open_before t f n b holds found up)
+frames_take above shift t f n y holds on v (inl (b, found, up, is)) = by_before (open_before t f n b holds found up)
   where
     by_before : WasOpen t n ⊎ (t.opened < n) → MayCome t n (y +ℤ pos (data_length n f))
     by_before (inl (a, there, was)) = inl (a, there, was, back_up y b.receive a.receive (data_length n f) is (shift t f n a b holds on v there was found).receive)
@@ -241,11 +241,11 @@ frames_take above shift t f n y holds on v some (inl (b, found, up, is)) = by_be
         inr (below, no_more y (pos stream_window) (data_length n f) (young_data t f n v below) (is ∙ young.0))
 
 pub frames_grant : FramesOpenAbove → FramesShift → FramesGrant
-frames_grant above shift s f n x holds on v some first stays (inr (low, whole)) =
+frames_grant above shift s f n x holds on v first stays (inr (low, whole)) =
     let raise = (above s f holds).opened in
     let below : s.opened < n = omega (arith, raise, low) in
     inr (below, no_less x (pos default_window) (frame_grant n f) (young_grant s f n v below) whole)
-frames_grant above shift s f n x holds on v some first stays (inl (a, found, up, is)) = by_before (open_before s f n a holds found up)
+frames_grant above shift s f n x holds on v first stays (inl (a, found, up, is)) = by_before (open_before s f n a holds found up)
   where
     by_before : WasOpen s n ⊎ (s.opened < n) → MayGo s n (x -ℤ pos (frame_grant n f))
     by_before (inl (b, there, was)) =

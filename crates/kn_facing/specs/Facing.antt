@@ -1,15 +1,19 @@
 -- Two ends of a connection that face each other: neither finds a fault in what comes from the other.
-use Rattle.std.specs.Prelude.{◌≡◌, ℕ, ◌+◌, ◌≤◌, ◌==◌, Bool, true, not, ◌&&◌, ◌||◌, List, [], ◌∷◌, None, Some, if◌then◌else◌}
+use Rattle.std.specs.Prelude.{◌≡◌, ℕ, ◌+◌, ◌<◌, ◌≤◌, ◌==◌, Bool, true, false, not, ◌&&◌, ◌||◌, List, [], ◌∷◌, None, Some, Ok, if◌then◌else◌}
+use Rattle.std.specs.List.{AllByRecursion}
 use Rattle.kn_frames.specs.declared.frame.Frame.{Frame}
 use Rattle.kn_frames.specs.Readers.{frames_in}
+use Rattle.kn_hpack.specs.Fields.{Field}
+use Rattle.kn_hpack.specs.Blocks.{Progress, read_block}
 use Rattle.kn_h2_state.specs.declared.stream.Stream.{Stream}
 use Rattle.kn_h2_state.specs.declared.state.State.{State}
-use Rattle.kn_h2_state.specs.Feeding.{after_frames}
+use Rattle.kn_h2_state.specs.Feeding.{after_frame, after_frames}
 use Rattle.kn_h2_state.specs.InStep.{IsInStep}
 use Rattle.kn_h2_state.specs.Outgoing.{nothing_out}
-use Rattle.kn_h2_state.specs.Payloads.{has}
-use Rattle.kn_h2_state.specs.Streams.{stream_at, is_open}
-use Rattle.kn_h2_state.specs.Rules.{is_client}
+use Rattle.kn_h2_state.specs.Payloads.{has, settings_of}
+use Rattle.kn_h2_state.specs.Streams.{stream_at, is_open, on_open}
+use Rattle.kn_h2_state.specs.Rules.{is_client, block_with, verdict}
+use Rattle.kn_h2_state.specs.Heads.{is_malformed_request, is_malformed_response, is_informational}
 use Rattle.kn_facing.specs.Ways.{Way, wire}
 
 -- what is on its way to an end, as frames
@@ -39,6 +43,39 @@ pub record IsFollowed (s t : State) : Type 0 where
   -- no stream is known here that was not begun there
   pub opened : is_client s.role ≡ true → t.opened ≡ s.opened
   pub begun : is_client t.role ≡ true → s.opened ≤ t.opened
+
+-- A stream that a server has not come to know yet is at its client as it began.
+abbrev pub Awaits : State → State → Type 0
+Awaits s t = is_client t.role ≡ true → (n : ℕ) (b : Stream) → s.opened < n → stream_at t.streams n ≡ Some b → is_open b ≡ true → (b.peer_open ≡ true) × (b.answered ≡ false)
+
+-- ---- what our ends write
+
+-- no PING, no CONTINUATION, and no SETTINGS with INITIAL_WINDOW_SIZE
+pub record IsPlain (f : Frame) : Type 0 where
+  pub whole : (f.kind == 9) ≡ false
+  pub silent : (f.kind == 6) ≡ false
+  pub windows : (f.kind == 4) ≡ true → AllByRecursion (λ x. (x.0 == 4) ≡ false) (settings_of f.payload)
+
+-- the head of a response, and no interim one (RFC 9113, section 8.1)
+pub record IsResponse (fields : List Field) : Type 0 where
+  pub formed : is_malformed_response fields ≡ false
+  pub last : is_informational fields ≡ false
+
+-- the fields are those of a request, or of a response where a client waits for one
+pub record Fits (t : State) (n : ℕ) (fields : List Field) : Type 0 where
+  pub request : is_client t.role ≡ false → is_malformed_request fields ≡ false
+  pub response : is_client t.role ≡ true → on_open t.streams n (λ st. not st.answered) ≡ true → IsResponse fields
+
+-- The frame breaks no rule, and asks for no reply but what acknowledges SETTINGS.
+pub record IsTaken (t : State) (f : Frame) : Type 0 where
+  pub kept : verdict t f ≡ None
+  pub plain : IsPlain f
+  pub head : (f.kind == 1) ≡ true → (p : Progress) → read_block t.decoder (block_with t f) ≡ Ok p → Fits t f.stream p.fields
+
+-- and so each of them, one after another
+unfoldable pub AreTaken : State → List Frame → Type 0
+AreTaken t [] = Unit {0}
+AreTaken t (f ∷ fs) = IsTaken t f × AreTaken (after_frame t f) fs
 
 -- ---- reply frames
 

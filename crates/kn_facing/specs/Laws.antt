@@ -1,18 +1,18 @@
 -- What two ends that face each other go on to take of each other.
-use Rattle.std.specs.Prelude.{◌≡◌, ℕ, ◌+◌, ◌*◌, ◌≤◌, not, List, ◌++◌, None}
+use Rattle.std.specs.Prelude.{◌≡◌, ℕ, ◌+◌, ◌*◌, ◌≤◌, true, false, not, List, ◌++◌, None}
 use Rattle.std.specs.List.{AllByRecursion}
 use Rattle.kn_frames.specs.declared.frame.Frame.{Frame}
 use Rattle.kn_frames.specs.Frames.{IsWithinLimits}
 use Rattle.kn_frames.specs.Readers.{after_bytes, frames_in, fault_in}
 use Rattle.kn_h2_state.specs.declared.state.State.{State}
-use Rattle.kn_h2_state.specs.Feeding.{after_frames}
+use Rattle.kn_h2_state.specs.Feeding.{after_frame, after_frames}
 use Rattle.kn_h2_state.specs.Limits.{reply_limit}
 use Rattle.kn_h2_state.specs.Outgoing.{reply_bytes}
-use Rattle.kn_h2_state.specs.Rules.{is_client}
+use Rattle.kn_h2_state.specs.Rules.{is_client, verdict}
 use Rattle.kn_h2_state.specs.Holding.{Holds}
 use Rattle.kn_h2_state.specs.Preorder.{Accepts, HasRoomFor, HearsMore}
 use Rattle.kn_facing.specs.Ways.{Way, delivered, IsWhole}
-use Rattle.kn_facing.specs.Facing.{coming, asking, IsFollowed}
+use Rattle.kn_facing.specs.Facing.{coming, asking, IsFollowed, Awaits, AreTaken}
 
 -- ---- frames one behind the other
 
@@ -48,6 +48,15 @@ OwnStepsTake = (s t : State) (fs : List Frame) → Holds s → Holds t → Hears
 abbrev pub StaysFollowed : Type 0
 StaysFollowed = (s t u : State) → Holds s → is_client t.role ≡ not (is_client s.role) → HearsMore t u → IsFollowed s t → IsFollowed s u
 
+-- A frame that this end reads leaves the other taking what it may write next, and a client no further on than it was begun.
+pub record ReadsOnFollowed (s t : State) : Type 0 where
+  pub followed : IsFollowed s t
+  pub awaits : Awaits s t
+
+abbrev pub FramesKeepFollowed : Type 0
+FramesKeepFollowed = (s t : State) (f : Frame) → Holds s → Holds (after_frame s f) → s.failed ≡ None → verdict s f ≡ None → is_client t.role ≡ not (is_client s.role) → IsFollowed s t → Awaits s t
+    → (is_client t.role ≡ true → (after_frame s f).opened ≤ t.opened) → ReadsOnFollowed (after_frame s f) t
+
 -- ---- replies
 
 -- all of them are read: nothing fails, and each that asks adds 17 bytes of reply frames at most
@@ -61,3 +70,13 @@ pub record AreRead (s : State) (fs : List Frame) : Type 0 where
 abbrev pub FewAreRead : Type 0
 FewAreRead = (s : State) (fs : List Frame) → Holds s → s.failed ≡ None → AllByRecursion IsWithinLimits fs → Accepts s fs
     → reply_bytes s.out + 17 * asking fs ≤ reply_limit → (after_frames s fs).opened ≤ 1 → AreRead s fs
+
+-- What s takes, t takes, which hears at least as much: the frames that are on their way when an end does a step of its own.
+pub record AreTakenToo (s t : State) (fs : List Frame) : Type 0 where
+  pub taken : AreTaken t fs
+  pub more : HearsMore (after_frames s fs) (after_frames t fs)
+  pub goes : (after_frames t fs).failed ≡ None
+
+abbrev pub MoreAreTaken : Type 0
+MoreAreTaken = (s t : State) (fs : List Frame) → Holds s → Holds t → HearsMore s t → s.failed ≡ None → t.failed ≡ None → AllByRecursion IsWithinLimits fs → AreTaken s fs
+    → reply_bytes s.out + 17 * asking fs ≤ reply_limit → reply_bytes t.out + 17 * asking fs ≤ reply_limit → (is_client s.role ≡ false → (after_frames s fs).opened ≤ 1) → AreTakenToo s t fs

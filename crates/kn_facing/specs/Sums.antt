@@ -35,12 +35,12 @@ StreamSum n s fs t back = (x y : ℤ) → MayGo s n x → MayCome t n y → x +�
 
 -- Text takes of what may come, as much as its DATA has with its padding.
 abbrev pub FramesTake : Type 0
-FramesTake = (t : State) (f : Frame) (n : ℕ) (y : ℤ) → Holds t → t.failed ≡ None → verdict t f ≡ None → n ≢ 0
+FramesTake = (t : State) (f : Frame) (n : ℕ) (y : ℤ) → Holds t → t.failed ≡ None → verdict t f ≡ None
     → MayCome (after_frame t f) n y → MayCome t n (y +ℤ pos (data_length n f))
 
 -- A grant adds to what may go, where INITIAL_WINDOW_SIZE stays what it is at first.
 abbrev pub FramesGrant : Type 0
-FramesGrant = (s : State) (f : Frame) (n : ℕ) (x : ℤ) → Holds s → s.failed ≡ None → verdict s f ≡ None → n ≢ 0 → s.initial ≡ default_window → (after_frame s f).initial ≡ default_window
+FramesGrant = (s : State) (f : Frame) (n : ℕ) (x : ℤ) → Holds s → s.failed ≡ None → verdict s f ≡ None → s.initial ≡ default_window → (after_frame s f).initial ≡ default_window
     → MayGo (after_frame s f) n x → MayGo s n (x -ℤ pos (frame_grant n f))
 
 -- ---- what an end does of its own

@@ -1,6 +1,6 @@
 ghost use Rattle.kn_facing.specs.Taken.{DataIsTaken, LastDataIsTaken, RequestIsTaken, ResponseIsTaken, TrailersAreTaken, ResetIsTaken, GrantIsTaken, StreamGrantIsTaken, ClientSettingsAreTaken, ServerSettingsAreTaken, AcknowledgementIsTaken};
-ghost use Rattle.kn_facing.specs.Sums.{FramesTake, FramesGrant};
-ghost use Rattle.kn_facing.specs.Laws.{AcceptsJoin, AcceptsPart, NoFaultBefore, ReadsOn, OwnStepsTake, StaysFollowed, FewAreRead};
+ghost use Rattle.kn_facing.specs.Sums.{FramesTake, FramesGrant, MovesShiftBoth, CallsLeaveBoth};
+ghost use Rattle.kn_facing.specs.Laws.{AcceptsJoin, AcceptsPart, NoFaultBefore, ReadsOn, OwnStepsTake, StaysFollowed, FewAreRead, MoreAreTaken, FramesKeepFollowed};
 
 /// Frames that come behind others are looked at once these were read.
 pub fn frames_are_taken_in_turn()
@@ -67,4 +67,35 @@ pub fn frames_move_windows()
 {
     kn_h2_state::opened_is_above();
     kn_h2::windows_follow();
+}
+
+/// A move takes of what may go on a stream what it sends, and adds to what may come what it grants; a call changes
+/// neither.
+pub fn own_steps_move_windows()
+    ensures moves { MovesShiftBoth }
+    ensures calls { CallsLeaveBoth }
+{
+    kn_h2_state::own_steps_are_heard();
+    kn_h2::sending_laws();
+    kn_h2::windows_move();
+}
+
+/// What an end takes of what is on its way, it still takes where it hears at least as much, as after each step of its
+/// own.
+pub fn more_are_taken()
+    ensures { MoreAreTaken }
+{
+    kn_h2_state::more_is_heard();
+    kn_h2_state::opened_is_above();
+    kn_h2::frames_keep();
+    kn_h2::role_stays();
+}
+
+/// A frame that an end reads leaves the other end taking what it may write next: what was open is not opened again,
+/// and a stream that comes is at the client as it began.
+pub fn frames_keep_followed()
+    ensures { FramesKeepFollowed }
+{
+    kn_h2_state::opened_is_above();
+    kn_h2_state::answered_is_kept();
 }
