@@ -38,7 +38,7 @@ hears_right s t h = record { role = h.role; began = h.began; block = h.block; de
 pub hears_emptied : (s t : State) → HearsMore s t → HearsMore (emptied s) (emptied t)
 hears_emptied s t h = hears_right (emptied s) t (hears_left s t h)
 
-none_waits : reply_bytes nothing_out ≡ 0
+pub none_waits : reply_bytes nothing_out ≡ 0
 unfolding count_true
 none_waits = refl
 
@@ -81,7 +81,7 @@ fits_too s t f fields h v head fits = record {
   response = λ client waits. let here = ap is_client (sym h.role) ∙ client in fits.response here (waits_too s t f h here v head waits);
 }
 
-taken_too : MoreIsHeard → (s t : State) (f : Frame) → Holds t → HearsMore s t → IsTaken s f → IsTaken t f
+pub taken_too : MoreIsHeard → (s t : State) (f : Frame) → Holds t → HearsMore s t → IsTaken s f → IsTaken t f
 taken_too heard s t f holds h k = record {
   kept = heard s t f holds h k.kept;
   plain = k.plain;

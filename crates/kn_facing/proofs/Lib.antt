@@ -1,6 +1,8 @@
 pub mod CarryLemmas
+pub mod FaceLemmas
 pub mod FacingLemmas
 pub mod FollowedLemmas
+pub mod ListSums
 pub mod OwnSumLemmas
 pub mod ReadLemmas
 pub mod RoomLemmas

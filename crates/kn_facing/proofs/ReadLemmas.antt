@@ -74,7 +74,7 @@ served true e = absurd cc
 served false e = refl
 
 pub frames_keep_followed : FramesOpenAbove → AnsweredIsKept → FramesKeepFollowed
-frames_keep_followed above kept s t f holds after on v other h waits bound = record {
+frames_keep_followed above kept s t f holds after on v plain other h waits bound = record {
   followed = record {
     began = h.began;
     block = h.block;
@@ -88,7 +88,7 @@ frames_keep_followed above kept s t f holds after on v other h waits bound = rec
 }
   where
     steady : Steady s (after_frame s f)
-    steady = steady_frame s f on v
+    steady = steady_frame s f on v plain
     here : is_client (after_frame s f).role ≡ true → is_client s.role ≡ true
     here client = ap is_client (sym steady.role) ∙ client
     half : (n : ℕ) (a b : Stream) → stream_at (after_frame s f).streams n ≡ Some a → a.own_open ≡ true → stream_at t.streams n ≡ Some b → is_open b ≡ true → There s n a ⊎ (s.opened < n) → b.peer_open ≡ true

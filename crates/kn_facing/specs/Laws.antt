@@ -12,7 +12,7 @@ use Rattle.kn_h2_state.specs.Rules.{is_client, verdict}
 use Rattle.kn_h2_state.specs.Holding.{Holds}
 use Rattle.kn_h2_state.specs.Preorder.{Accepts, HasRoomFor, HearsMore}
 use Rattle.kn_facing.specs.Ways.{Way, delivered, IsWhole}
-use Rattle.kn_facing.specs.Facing.{coming, asking, IsFollowed, Awaits, AreTaken}
+use Rattle.kn_facing.specs.Facing.{coming, asking, IsFollowed, Awaits, IsPlain, AreTaken}
 
 -- ---- frames one behind the other
 
@@ -54,7 +54,7 @@ pub record ReadsOnFollowed (s t : State) : Type 0 where
   pub awaits : Awaits s t
 
 abbrev pub FramesKeepFollowed : Type 0
-FramesKeepFollowed = (s t : State) (f : Frame) → Holds s → Holds (after_frame s f) → s.failed ≡ None → verdict s f ≡ None → is_client t.role ≡ not (is_client s.role) → IsFollowed s t → Awaits s t
+FramesKeepFollowed = (s t : State) (f : Frame) → Holds s → Holds (after_frame s f) → s.failed ≡ None → verdict s f ≡ None → IsPlain f → is_client t.role ≡ not (is_client s.role) → IsFollowed s t → Awaits s t
     → (is_client t.role ≡ true → (after_frame s f).opened ≤ t.opened) → ReadsOnFollowed (after_frame s f) t
 
 -- ---- replies

@@ -2,4 +2,5 @@ pub mod Ways
 pub mod Facing
 pub mod Laws
 pub mod Sums
+pub mod Faces
 pub mod Taken

@@ -1,5 +1,6 @@
 ghost use Rattle.kn_facing.specs.Taken.{DataIsTaken, LastDataIsTaken, RequestIsTaken, ResponseIsTaken, TrailersAreTaken, ResetIsTaken, GrantIsTaken, StreamGrantIsTaken, ClientSettingsAreTaken, ServerSettingsAreTaken, AcknowledgementIsTaken};
 ghost use Rattle.kn_facing.specs.Sums.{FramesTake, FramesGrant, MovesShiftBoth, CallsLeaveBoth};
+ghost use Rattle.kn_facing.specs.Faces.{FacesTurn};
 ghost use Rattle.kn_facing.specs.Laws.{AcceptsJoin, AcceptsPart, NoFaultBefore, ReadsOn, OwnStepsTake, StaysFollowed, FewAreRead, MoreAreTaken, FramesKeepFollowed};
 
 /// Frames that come behind others are looked at once these were read.
@@ -99,3 +100,8 @@ pub fn frames_keep_followed()
     kn_h2_state::opened_is_above();
     kn_h2_state::answered_is_kept();
 }
+
+/// Two ends that face each other do so whichever of them is named first.
+pub fn faces_turn()
+    ensures { FacesTurn }
+{}
