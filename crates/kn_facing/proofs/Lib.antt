@@ -5,6 +5,7 @@ pub mod FollowedLemmas
 pub mod ListSums
 pub mod OwnSumLemmas
 pub mod ReadLemmas
+pub mod ReadStep
 pub mod RoomLemmas
 pub mod SteadyLemmas
 pub mod SumLemmas

@@ -1,6 +1,6 @@
 ghost use Rattle.kn_facing.specs.Taken.{DataIsTaken, LastDataIsTaken, RequestIsTaken, ResponseIsTaken, TrailersAreTaken, ResetIsTaken, GrantIsTaken, StreamGrantIsTaken, ClientSettingsAreTaken, ServerSettingsAreTaken, AcknowledgementIsTaken};
 ghost use Rattle.kn_facing.specs.Sums.{FramesTake, FramesGrant, MovesShiftBoth, CallsLeaveBoth};
-ghost use Rattle.kn_facing.specs.Faces.{FacesTurn};
+ghost use Rattle.kn_facing.specs.Faces.{FacesTurn, FramesKeepFaces};
 ghost use Rattle.kn_facing.specs.Laws.{AcceptsJoin, AcceptsPart, NoFaultBefore, ReadsOn, OwnStepsTake, StaysFollowed, FewAreRead, MoreAreTaken, FramesKeepFollowed};
 
 /// Frames that come behind others are looked at once these were read.
@@ -105,3 +105,18 @@ pub fn frames_keep_followed()
 pub fn faces_turn()
     ensures { FacesTurn }
 {}
+
+/// Two ends that face each other do so once one of them has read the first frame that is on its way to it, and
+/// acknowledged it if it is SETTINGS.
+pub fn frames_keep_faces()
+    ensures { FramesKeepFaces }
+{
+    kn_h2_state::more_is_heard();
+    kn_h2_state::opened_is_above();
+    kn_h2_state::answered_is_kept();
+    kn_h2_state::own_steps_are_heard();
+    kn_h2_state::own_facts_stay();
+    kn_h2::frames_keep();
+    kn_h2::role_stays();
+    kn_h2::windows_follow();
+}
