@@ -8,5 +8,6 @@ pub mod ReadLemmas
 pub mod ReadStep
 pub mod RoomLemmas
 pub mod SteadyLemmas
+pub mod StepLemmas
 pub mod SumLemmas
 pub mod TakenLemmas

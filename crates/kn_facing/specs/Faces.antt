@@ -1,21 +1,23 @@
 -- Two ends of one connection that face each other, with the frames that are on their way between them.
-use Rattle.std.specs.Prelude.{◌≡◌, ℕ, pos, ◌+◌, ◌*◌, ◌+ℤ◌, ◌≤◌, ◌==◌, Bool, true, false, not, ◌&&◌, List, [], ◌∷◌, ◌++◌, length, None, Some, if◌then◌else◌}
+use Rattle.std.specs.Prelude.{◌≡◌, ℕ, ℤ, pos, ◌+◌, ◌*◌, ◌+ℤ◌, ◌-ℤ◌, ◌≤◌, ◌==◌, Bool, true, false, not, ◌&&◌, List, [], ◌∷◌, ◌++◌, length, None, Some, if◌then◌else◌}
 use Rattle.std.specs.List.{AllByRecursion}
 use Rattle.kn_frames.specs.declared.frame.Frame.{Frame}
 use Rattle.kn_frames.specs.Frames.{IsWithinLimits}
+use Rattle.kn_hpack.specs.Fields.{Field}
 use Rattle.kn_h2_state.specs.declared.stream.Stream.{Stream}
 use Rattle.kn_h2_state.specs.declared.state.State.{State}
 use Rattle.kn_h2_state.specs.Limits.{default_window}
 use Rattle.kn_h2_state.specs.Outgoing.{reply_bytes}
 use Rattle.kn_h2_state.specs.Payloads.{has}
-use Rattle.kn_h2_state.specs.Streams.{stream_at}
+use Rattle.kn_h2_state.specs.Streams.{stream_at, on_open}
 use Rattle.kn_h2_state.specs.Rules.{is_client}
 use Rattle.kn_h2_state.specs.Feeding.{after_frame, after_frames}
+use Rattle.kn_h2_state.specs.Calls.{text_of, refusal, queue_refusal, takes_more, after_take, after_queue, after_finish, after_took}
 use Rattle.kn_h2_state.specs.Holding.{Holds}
-use Rattle.kn_h2_state.specs.Preorder.{OwnFacts}
-use Rattle.kn_h2_state.specs.Wire.{frame, grants_in}
+use Rattle.kn_h2_state.specs.Preorder.{HearsMore, OwnFacts}
+use Rattle.kn_h2_state.specs.Wire.{frame, grants_in, data_lengths_in}
 use Rattle.kn_facing.specs.Facing.{emptied, IsFollowed, Awaits, AreTaken, asking}
-use Rattle.kn_facing.specs.Sums.{StreamSum}
+use Rattle.kn_facing.specs.Sums.{MayCome, MayGo, StreamSum}
 
 -- ---- windows of the connection
 
@@ -79,3 +81,47 @@ acknowledged f = if (f.kind == 4) && not (has f 1) then frame 4 1 0 [] ∷ [] el
 -- The first frame on its way is read, and they face each other still.
 abbrev pub FramesKeepFaces : Type 0
 FramesKeepFaces = (a b : State) (f : Frame) (ab ba : List Frame) → Faces a b (f ∷ ab) ba → Faces a (after_frame b f) ab (ba ++ acknowledged f)
+
+-- ---- what an end does of its own
+
+-- From s to t an end writes the frames fs, which the other end takes that is u by then; it goes on to hear all that it heard.
+pub record IsStep (s t : State) (fs : List Frame) (u : State) : Type 0 where
+  pub still : IsEnd t
+  pub role : t.role ≡ s.role
+  pub hears : HearsMore s t
+  pub opened : is_client s.role ≡ true → t.opened ≡ s.opened
+  pub limits : AllByRecursion IsWithinLimits fs
+  pub taken : AreTaken u fs
+  pub followed : IsFollowed t (after_frames u fs)
+  pub awaits : Awaits t (after_frames u fs)
+  pub goes : (n : ℕ) (x : ℤ) → MayGo t n x → MayGo s n (x +ℤ pos (data_lengths_in n fs))
+  pub comes : (n : ℕ) (y : ℤ) → MayCome t n y → MayCome s n (y -ℤ pos (grants_in n fs))
+  pub all_goes : s.send ≡ t.send +ℤ pos (all_lengths fs)
+  pub all_comes : t.receive ≡ s.receive +ℤ pos (grants_in 0 fs)
+
+-- Such a step leaves them facing each other, where the replies have room that wait and that may be asked for.
+abbrev pub StepsKeepFaces : Type 0
+StepsKeepFaces = (a b t : State) (fs ab ba : List Frame) → Faces a b ab ba → IsStep a t fs (after_frames (emptied b) ab)
+    → reply_bytes t.out + 17 * asking ba ≤ 32768 → reply_bytes b.out + 17 * asking (ab ++ fs) ≤ 32768 → Faces t b (ab ++ fs) ba
+
+-- ---- calls that write nothing
+
+-- text is taken, not more than there is
+abbrev pub TakesKeepFaces : Type 0
+TakesKeepFaces = (a b : State) (ab ba : List Frame) (n count : ℕ) → Faces a b ab ba → count ≤ length (text_of a n) → Faces (after_take n count a) b ab ba
+
+-- what waits for the socket goes on its way: it is counted among the frames that are on it already
+abbrev pub TookKeepsFaces : Type 0
+TookKeepsFaces = (a b : State) (ab ba : List Frame) (count : ℕ) → Faces a b ab ba → Faces (after_took count a) b ab ba
+
+-- at a server the stream is answered
+abbrev pub IsAnsweredAt : State → ℕ → Type 0
+IsAnsweredAt s n = is_client s.role ≡ false → on_open s.streams n (λ st. st.answered) ≡ true
+
+-- bytes are queued
+abbrev pub QueuesKeepFaces : Type 0
+QueuesKeepFaces = (a b : State) (ab ba : List Frame) (n : ℕ) (bytes : List ℕ) → Faces a b ab ba → queue_refusal a n ≡ None → IsAnsweredAt a n → Faces (after_queue n bytes a) b ab ba
+
+-- an end is asked for
+abbrev pub FinishesKeepFaces : Type 0
+FinishesKeepFaces = (a b : State) (ab ba : List Frame) (n : ℕ) (trailers : List Field) → Faces a b ab ba → refusal takes_more a n ≡ None → IsAnsweredAt a n → Faces (after_finish n trailers a) b ab ba

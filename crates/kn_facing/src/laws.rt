@@ -1,6 +1,6 @@
 ghost use Rattle.kn_facing.specs.Taken.{DataIsTaken, LastDataIsTaken, RequestIsTaken, ResponseIsTaken, TrailersAreTaken, ResetIsTaken, GrantIsTaken, StreamGrantIsTaken, ClientSettingsAreTaken, ServerSettingsAreTaken, AcknowledgementIsTaken};
 ghost use Rattle.kn_facing.specs.Sums.{FramesTake, FramesGrant, MovesShiftBoth, CallsLeaveBoth};
-ghost use Rattle.kn_facing.specs.Faces.{FacesTurn, FramesKeepFaces};
+ghost use Rattle.kn_facing.specs.Faces.{FacesTurn, FramesKeepFaces, StepsKeepFaces, TakesKeepFaces, TookKeepsFaces, QueuesKeepFaces, FinishesKeepFaces};
 ghost use Rattle.kn_facing.specs.Laws.{AcceptsJoin, AcceptsPart, NoFaultBefore, ReadsOn, OwnStepsTake, StaysFollowed, FewAreRead, MoreAreTaken, FramesKeepFollowed};
 
 /// Frames that come behind others are looked at once these were read.
@@ -110,6 +110,39 @@ pub fn faces_turn()
 /// acknowledged it if it is SETTINGS.
 pub fn frames_keep_faces()
     ensures { FramesKeepFaces }
+{
+    kn_h2_state::more_is_heard();
+    kn_h2_state::opened_is_above();
+    kn_h2_state::answered_is_kept();
+    kn_h2_state::own_steps_are_heard();
+    kn_h2_state::own_facts_stay();
+    kn_h2::frames_keep();
+    kn_h2::role_stays();
+    kn_h2::windows_follow();
+}
+
+/// So they do after any step of one end's own whose frames the other takes behind those that are on their way, and
+/// where replies have room.
+pub fn steps_keep_faces()
+    ensures { StepsKeepFaces }
+{
+    kn_h2_state::more_is_heard();
+    kn_h2_state::opened_is_above();
+    kn_h2_state::answered_is_kept();
+    kn_h2_state::own_steps_are_heard();
+    kn_h2_state::own_facts_stay();
+    kn_h2::frames_keep();
+    kn_h2::role_stays();
+    kn_h2::windows_follow();
+}
+
+/// So they do where text is taken, where what waits for the socket goes on its way, where bytes are queued, at a
+/// server on a stream that is answered, and where an end is asked for there.
+pub fn calls_keep_faces()
+    ensures takes { TakesKeepFaces }
+    ensures took { TookKeepsFaces }
+    ensures queues { QueuesKeepFaces }
+    ensures finishes { FinishesKeepFaces }
 {
     kn_h2_state::more_is_heard();
     kn_h2_state::opened_is_above();
