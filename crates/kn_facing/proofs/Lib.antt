@@ -7,6 +7,7 @@ pub mod OwnSumLemmas
 pub mod ReadLemmas
 pub mod ReadStep
 pub mod RoomLemmas
+pub mod StartLemmas
 pub mod SteadyLemmas
 pub mod StepLemmas
 pub mod SumLemmas

@@ -4,6 +4,7 @@ use Rattle.std.specs.List.{AllByRecursion}
 use Rattle.kn_frames.specs.declared.frame.Frame.{Frame}
 use Rattle.kn_frames.specs.Frames.{IsWithinLimits}
 use Rattle.kn_hpack.specs.Fields.{Field}
+use Rattle.kn_h2_state.specs.declared.role.Role.TheVariants.{Server, Client}
 use Rattle.kn_h2_state.specs.declared.stream.Stream.{Stream}
 use Rattle.kn_h2_state.specs.declared.state.State.{State}
 use Rattle.kn_h2_state.specs.Limits.{default_window}
@@ -12,10 +13,11 @@ use Rattle.kn_h2_state.specs.Payloads.{has}
 use Rattle.kn_h2_state.specs.Streams.{stream_at, on_open}
 use Rattle.kn_h2_state.specs.Rules.{is_client}
 use Rattle.kn_h2_state.specs.Feeding.{after_frame, after_frames}
-use Rattle.kn_h2_state.specs.Calls.{text_of, refusal, queue_refusal, takes_more, after_take, after_queue, after_finish, after_took}
+use Rattle.kn_h2_state.specs.Calls.{fresh_state, text_of, refusal, queue_refusal, takes_more, after_take, after_queue, after_finish, after_took}
 use Rattle.kn_h2_state.specs.Holding.{Holds}
 use Rattle.kn_h2_state.specs.Preorder.{HearsMore, OwnFacts}
 use Rattle.kn_h2_state.specs.Wire.{frame, grants_in, data_lengths_in}
+use Rattle.kn_h2.specs.Written.{opening_list}
 use Rattle.kn_facing.specs.Facing.{emptied, IsFollowed, Awaits, AreTaken, asking}
 use Rattle.kn_facing.specs.Sums.{MayCome, MayGo, StreamSum}
 
@@ -125,3 +127,9 @@ QueuesKeepFaces = (a b : State) (ab ba : List Frame) (n : ℕ) (bytes : List ℕ
 -- an end is asked for
 abbrev pub FinishesKeepFaces : Type 0
 FinishesKeepFaces = (a b : State) (ab ba : List Frame) (n : ℕ) (trailers : List Field) → Faces a b ab ba → refusal takes_more a n ≡ None → IsAnsweredAt a n → Faces (after_finish n trailers a) b ab ba
+
+-- ---- the beginning
+
+-- A new client's end and a new server's, before anything is read: their openings are on their way.
+abbrev pub FacesBegin : Type 0
+FacesBegin = Faces (fresh_state Client) (fresh_state Server) (opening_list Client) (opening_list Server)

@@ -1,6 +1,6 @@
 ghost use Rattle.kn_facing.specs.Taken.{DataIsTaken, LastDataIsTaken, RequestIsTaken, ResponseIsTaken, TrailersAreTaken, ResetIsTaken, GrantIsTaken, StreamGrantIsTaken, ClientSettingsAreTaken, ServerSettingsAreTaken, AcknowledgementIsTaken};
 ghost use Rattle.kn_facing.specs.Sums.{FramesTake, FramesGrant, MovesShiftBoth, CallsLeaveBoth};
-ghost use Rattle.kn_facing.specs.Faces.{FacesTurn, FramesKeepFaces, StepsKeepFaces, TakesKeepFaces, TookKeepsFaces, QueuesKeepFaces, FinishesKeepFaces};
+ghost use Rattle.kn_facing.specs.Faces.{FacesTurn, FramesKeepFaces, StepsKeepFaces, TakesKeepFaces, TookKeepsFaces, QueuesKeepFaces, FinishesKeepFaces, FacesBegin};
 ghost use Rattle.kn_facing.specs.Laws.{AcceptsJoin, AcceptsPart, NoFaultBefore, ReadsOn, OwnStepsTake, StaysFollowed, FewAreRead, MoreAreTaken, FramesKeepFollowed};
 
 /// Frames that come behind others are looked at once these were read.
@@ -152,4 +152,12 @@ pub fn calls_keep_faces()
     kn_h2::frames_keep();
     kn_h2::role_stays();
     kn_h2::windows_follow();
+}
+
+/// A new client's end and a new server's face each other, with their openings on their way.
+pub fn faces_begin()
+    ensures { FacesBegin }
+{
+    kn_h2_state::own_facts_stay();
+    kn_h2::frames_keep();
 }
