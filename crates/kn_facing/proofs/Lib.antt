@@ -1,0 +1,14 @@
+pub mod CarryLemmas
+pub mod FaceLemmas
+pub mod FacingLemmas
+pub mod FollowedLemmas
+pub mod ListSums
+pub mod OwnSumLemmas
+pub mod ReadLemmas
+pub mod ReadStep
+pub mod RoomLemmas
+pub mod StartLemmas
+pub mod SteadyLemmas
+pub mod StepLemmas
+pub mod SumLemmas
+pub mod TakenLemmas

@@ -1,0 +1,135 @@
+-- Two ends of one connection that face each other, with the frames that are on their way between them.
+use Rattle.std.specs.Prelude.{◌≡◌, ℕ, ℤ, pos, ◌+◌, ◌*◌, ◌+ℤ◌, ◌-ℤ◌, ◌≤◌, ◌==◌, Bool, true, false, not, ◌&&◌, List, [], ◌∷◌, ◌++◌, length, None, Some, if◌then◌else◌}
+use Rattle.std.specs.List.{AllByRecursion}
+use Rattle.kn_frames.specs.declared.frame.Frame.{Frame}
+use Rattle.kn_frames.specs.Frames.{IsWithinLimits}
+use Rattle.kn_hpack.specs.Fields.{Field}
+use Rattle.kn_h2_state.specs.declared.role.Role.TheVariants.{Server, Client}
+use Rattle.kn_h2_state.specs.declared.stream.Stream.{Stream}
+use Rattle.kn_h2_state.specs.declared.state.State.{State}
+use Rattle.kn_h2_state.specs.Limits.{default_window}
+use Rattle.kn_h2_state.specs.Outgoing.{reply_bytes}
+use Rattle.kn_h2_state.specs.Payloads.{has}
+use Rattle.kn_h2_state.specs.Streams.{stream_at, on_open}
+use Rattle.kn_h2_state.specs.Rules.{is_client}
+use Rattle.kn_h2_state.specs.Feeding.{after_frame, after_frames}
+use Rattle.kn_h2_state.specs.Calls.{fresh_state, text_of, refusal, queue_refusal, takes_more, after_take, after_queue, after_finish, after_took}
+use Rattle.kn_h2_state.specs.Holding.{Holds}
+use Rattle.kn_h2_state.specs.Preorder.{HearsMore, OwnFacts}
+use Rattle.kn_h2_state.specs.Wire.{frame, grants_in, data_lengths_in}
+use Rattle.kn_h2.specs.Written.{opening_list}
+use Rattle.kn_facing.specs.Facing.{emptied, IsFollowed, Awaits, AreTaken, asking}
+use Rattle.kn_facing.specs.Sums.{MayCome, MayGo, StreamSum}
+
+-- ---- windows of the connection
+
+-- how much DATA is on its way, with its padding
+unfoldable pub all_lengths : List Frame → ℕ
+all_lengths [] = 0
+all_lengths (f ∷ fs) = (if f.kind == 0 then length f.payload else 0) + all_lengths fs
+
+-- what the one end may send, with the text and the grants on their way, is what the other has room for
+abbrev pub ConnectionSum : State → List Frame → State → List Frame → Type 0
+ConnectionSum s fs t back = s.send +ℤ pos (all_lengths fs + grants_in 0 back) ≡ t.receive
+
+-- ---- one end, and one way
+
+-- at a server text and an end wait on no stream that is not answered
+abbrev pub AnswersFirst : State → Type 0
+AnswersFirst s = is_client s.role ≡ false → (n : ℕ) (st : Stream) → stream_at s.streams n ≡ Some st → st.answered ≡ false → (length st.queue ≡ 0) × (st.finish ≡ None)
+
+-- it has not failed, its peer set no other window, and one stream was begun at most
+pub record IsEnd (s : State) : Type 0 where
+  pub holds : Holds s
+  pub facts : OwnFacts s
+  pub goes : s.failed ≡ None
+  pub initial : s.initial ≡ default_window
+  pub one : s.opened ≤ 1
+  pub first : AnswersFirst s
+
+-- What s wrote, and is on its way to t, t takes; and what s may write next, t takes behind it. A reply is at most 17
+-- bytes; the rest of 65,536 is for the answers of this end's own.
+pub record IsSound (t : State) (fs : List Frame) (s : State) : Type 0 where
+  pub limits : AllByRecursion IsWithinLimits fs
+  pub taken : AreTaken (emptied t) fs
+  pub followed : IsFollowed s (after_frames (emptied t) fs)
+  pub awaits : Awaits s (after_frames (emptied t) fs)
+  pub replies : reply_bytes t.out + 17 * asking fs ≤ 32768
+
+-- ---- both
+
+-- The ends a and b of a connection, the frames on their way from a to b, and those from b to a.
+pub record Faces (a b : State) (ab ba : List Frame) : Type 0 where
+  pub other : is_client b.role ≡ not (is_client a.role)
+  pub end_a : IsEnd a
+  pub end_b : IsEnd b
+  pub to_b : IsSound b ab a
+  pub to_a : IsSound a ba b
+  pub sum_ab : (n : ℕ) → StreamSum n a ab b ba
+  pub sum_ba : (n : ℕ) → StreamSum n b ba a ab
+  pub all_ab : ConnectionSum a ab b ba
+  pub all_ba : ConnectionSum b ba a ab
+
+-- they face each other, whichever is named first
+abbrev pub FacesTurn : Type 0
+FacesTurn = (a b : State) (ab ba : List Frame) → Faces a b ab ba → Faces b a ba ab
+
+-- ---- a frame that is read
+
+-- SETTINGS are acknowledged, and nothing else is answered
+abbrev pub acknowledged : Frame → List Frame
+acknowledged f = if (f.kind == 4) && not (has f 1) then frame 4 1 0 [] ∷ [] else []
+
+-- The first frame on its way is read, and they face each other still.
+abbrev pub FramesKeepFaces : Type 0
+FramesKeepFaces = (a b : State) (f : Frame) (ab ba : List Frame) → Faces a b (f ∷ ab) ba → Faces a (after_frame b f) ab (ba ++ acknowledged f)
+
+-- ---- what an end does of its own
+
+-- From s to t an end writes the frames fs, which the other end takes that is u by then; it goes on to hear all that it heard.
+pub record IsStep (s t : State) (fs : List Frame) (u : State) : Type 0 where
+  pub still : IsEnd t
+  pub role : t.role ≡ s.role
+  pub hears : HearsMore s t
+  pub opened : is_client s.role ≡ true → t.opened ≡ s.opened
+  pub limits : AllByRecursion IsWithinLimits fs
+  pub taken : AreTaken u fs
+  pub followed : IsFollowed t (after_frames u fs)
+  pub awaits : Awaits t (after_frames u fs)
+  pub goes : (n : ℕ) (x : ℤ) → MayGo t n x → MayGo s n (x +ℤ pos (data_lengths_in n fs))
+  pub comes : (n : ℕ) (y : ℤ) → MayCome t n y → MayCome s n (y -ℤ pos (grants_in n fs))
+  pub all_goes : s.send ≡ t.send +ℤ pos (all_lengths fs)
+  pub all_comes : t.receive ≡ s.receive +ℤ pos (grants_in 0 fs)
+
+-- Such a step leaves them facing each other, where the replies have room that wait and that may be asked for.
+abbrev pub StepsKeepFaces : Type 0
+StepsKeepFaces = (a b t : State) (fs ab ba : List Frame) → Faces a b ab ba → IsStep a t fs (after_frames (emptied b) ab)
+    → reply_bytes t.out + 17 * asking ba ≤ 32768 → reply_bytes b.out + 17 * asking (ab ++ fs) ≤ 32768 → Faces t b (ab ++ fs) ba
+
+-- ---- calls that write nothing
+
+-- text is taken, not more than there is
+abbrev pub TakesKeepFaces : Type 0
+TakesKeepFaces = (a b : State) (ab ba : List Frame) (n count : ℕ) → Faces a b ab ba → count ≤ length (text_of a n) → Faces (after_take n count a) b ab ba
+
+-- what waits for the socket goes on its way: it is counted among the frames that are on it already
+abbrev pub TookKeepsFaces : Type 0
+TookKeepsFaces = (a b : State) (ab ba : List Frame) (count : ℕ) → Faces a b ab ba → Faces (after_took count a) b ab ba
+
+-- at a server the stream is answered
+abbrev pub IsAnsweredAt : State → ℕ → Type 0
+IsAnsweredAt s n = is_client s.role ≡ false → on_open s.streams n (λ st. st.answered) ≡ true
+
+-- bytes are queued
+abbrev pub QueuesKeepFaces : Type 0
+QueuesKeepFaces = (a b : State) (ab ba : List Frame) (n : ℕ) (bytes : List ℕ) → Faces a b ab ba → queue_refusal a n ≡ None → IsAnsweredAt a n → Faces (after_queue n bytes a) b ab ba
+
+-- an end is asked for
+abbrev pub FinishesKeepFaces : Type 0
+FinishesKeepFaces = (a b : State) (ab ba : List Frame) (n : ℕ) (trailers : List Field) → Faces a b ab ba → refusal takes_more a n ≡ None → IsAnsweredAt a n → Faces (after_finish n trailers a) b ab ba
+
+-- ---- the beginning
+
+-- A new client's end and a new server's, before anything is read: their openings are on their way.
+abbrev pub FacesBegin : Type 0
+FacesBegin = Faces (fresh_state Client) (fresh_state Server) (opening_list Client) (opening_list Server)

@@ -1,0 +1,6 @@
+pub mod Ways
+pub mod Facing
+pub mod Laws
+pub mod Sums
+pub mod Faces
+pub mod Taken

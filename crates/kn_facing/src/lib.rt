@@ -1,0 +1,10 @@
+//! Two ends of one HTTP/2 connection that face each other: what an end writes, the other takes.
+//! It has no code that runs: its functions are laws.
+#![tactic(auto)]
+
+mod laws;
+
+pub use laws::{calls_keep_faces, faces_begin, faces_turn, 
+    few_are_read, followed_stays, frames_are_taken_in_turn, frames_keep_faces, frames_keep_followed, frames_move_windows, heads_are_taken, more_are_taken,
+    other_frames_are_taken, own_steps_move_windows, own_steps_take, pieces_are_read, steps_keep_faces, text_is_taken,
+};
