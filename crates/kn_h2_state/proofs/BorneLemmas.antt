@@ -1,6 +1,6 @@
 -- What is true of a stream before a frame, and through each change that frames make, is true after it; and the
 -- numbers of the streams go on to rise.
-use Rattle.std.proofs.Common.{◌≡◌, ℕ, ◌<◌, ◌≤◌, ◌+◌, ◌+ℤ◌, pos, Bool, true, false, not, cond, eqb, ◌&&◌, ◌||◌, nat_lt, nat_le, List, [], ◌∷◌, ◌++◌, length, map, Option, Some, None, is_some, Result, Ok, Err, refl, sym, ap, ◌∙◌, subst, append-nil, append_assoc, arith, if◌then◌else◌}
+use Rattle.std.proofs.Common.{◌≡◌, ◌⊎◌, inl, inr, ℕ, ◌<◌, ◌≤◌, ◌+◌, ◌+ℤ◌, pos, Bool, true, false, not, cond, eqb, ◌&&◌, ◌||◌, nat_lt, nat_le, List, [], ◌∷◌, ◌++◌, length, map, Option, Some, None, is_some, Result, Ok, Err, refl, sym, ap, ◌∙◌, subst, append-nil, append_assoc, arith, if◌then◌else◌}
 use Rattle.std.specs.Bool.{◌==◌}
 use Rattle.std.specs.List.{AllByRecursion}
 use Rattle.std.proofs.lemmas.Bool.{eqb-true, ne_eqb, ltb-true}
@@ -24,7 +24,7 @@ use Rattle.kn_h2_state.specs.Feeding.{without_blocks, judged, after_frame}
 use Rattle.kn_h2_state.specs.Holding.{Rising}
 use Rattle.kn_h2_state.specs.Opening.{OpensWithin}
 use Rattle.kn_h2_state.proofs.SeenLemmas.{KeepsNumber, Climbs, climbs_tidied, none_below}
-use Rattle.kn_h2_state.proofs.OtherLaws.{either, open_or, by_kind, shifted_number}
+use Rattle.kn_h2_state.proofs.OtherLaws.{either, open_or, shifted_number}
 
 -- ---- numbers that rise
 
@@ -157,14 +157,15 @@ at_push Q (x ∷ ss) n w here q = by_test (eqb x.number n) (at_push Q ss n w her
 
 -- ---- what each change keeps
 
--- each change that a frame makes to a stream keeps this, at a client or at a server
-pub record Bears (client : Bool) (Q : Option Stream → Type 0) (n low : ℕ) : Type 0 where
+-- each change that a frame makes to a stream keeps this, at a client or at a server; that a stream is shut matters only
+-- where frames may do that
+pub record Bears (client : Bool) (MayShut : Type 0) (Q : Option Stream → Type 0) (n low : ℕ) : Type 0 where
   pub gone : (st : Stream) → is_kept st ≡ false → Q (Some st) → Q None
   pub texts : (k : ℕ) (text : List ℕ) (st : Stream) → Q (Some st) → Q (Some (with_text k text st))
   pub ends : (st : Stream) → Q (Some st) → Q (Some (record st { peer_open = false }))
   pub heads : client ≡ true → (st : Stream) → Q (Some st) → Q (Some (record st { answered = true }))
-  pub shuts : (st : Stream) → Q (Some st) → Q (Some (shut st))
-  pub cuts : (st : Stream) → Q (Some st) → Q (Some (record (shut st) { text = [] }))
+  pub shuts : MayShut → (st : Stream) → Q (Some st) → Q (Some (shut st))
+  pub cuts : MayShut → (st : Stream) → Q (Some st) → Q (Some (record (shut st) { text = [] }))
   pub grants : (by : ℕ) (st : Stream) → Q (Some st) → Q (Some (with_grant by st))
   pub shifts : (old new : ℕ) (st : Stream) → Q (Some st) → Q (Some (shifted_one old new st))
   pub fresh : (m : ℕ) (t : State) → low < m → m ≡ n → Q (Some (new_stream m t))
@@ -220,7 +221,7 @@ borne_event {Q} {n} {low} {base} t e b h = record {
   there = b.there;
 }
 
-borne_fail : {Q : Option Stream → Type 0} {n low : ℕ} {base : List H2Event} (code : ℕ) (t : State) → Borne Q n low base t → Borne Q n low base (fail code t)
+pub borne_fail : {Q : Option Stream → Type 0} {n low : ℕ} {base : List H2Event} (code : ℕ) (t : State) → Borne Q n low base t → Borne Q n low base (fail code t)
 unfolding fail
 borne_fail {Q} {n} {low} {base} code t b = record {
   told = b.told ++ Closed code ∷ [];
@@ -252,21 +253,21 @@ borne_on {Q} {n} m f t keeps gone step b =
     borne_streams t (on_stream m f t) b refl refl (rises_tidied 0 t.opened (change t.streams m f) r)
     (at_tidied Q 0 n (change t.streams m f) gone (climbing 0 t.opened (change t.streams m f) r) (at_change Q t.streams m n f keeps step b.there))
 
-borne_ends : {c : Bool} {Q : Option Stream → Type 0} {n low : ℕ} {base : List H2Event} (k : Bears c Q n low) (m : ℕ) (t : State) → Borne Q n low base t → Borne Q n low base (peer_ends m t)
+borne_ends : {c : Bool} {P : Type 0} {Q : Option Stream → Type 0} {n low : ℕ} {base : List H2Event} (k : Bears c P Q n low) (m : ℕ) (t : State) → Borne Q n low base t → Borne Q n low base (peer_ends m t)
 unfolding peer_ends
 borne_ends k m t b =
     let u : State = on_stream m (λ st. record st { peer_open = false }) t in
     borne_event u (Ended m) (borne_on m (λ st. record st { peer_open = false }) t (λ st. refl) k.gone k.ends b) tt
 
-borne_ended : {c : Bool} {Q : Option Stream → Type 0} {n low : ℕ} {base : List H2Event} (k : Bears c Q n low) (ends : Bool) (m : ℕ) (t : State)
+borne_ended : {c : Bool} {P : Type 0} {Q : Option Stream → Type 0} {n low : ℕ} {base : List H2Event} (k : Bears c P Q n low) (ends : Bool) (m : ℕ) (t : State)
     → Borne Q n low base t → Borne Q n low base (ended_if ends m t)
-borne_ended {c} {Q} {n} {low} {base} k ends m t b = either (Borne Q n low base) ends (peer_ends m t) t (borne_ends k m t b) b
+borne_ended {c} {P} {Q} {n} {low} {base} k ends m t b = either (Borne Q n low base) ends (peer_ends m t) t (borne_ends k m t b) b
 
 -- ---- DATA
 
-borne_data_in : {c : Bool} {Q : Option Stream → Type 0} {n low : ℕ} {base : List H2Event} (k : Bears c Q n low) (f : Frame) (t : State) → Borne Q n low base t → Borne Q n low base (data_in f t)
+borne_data_in : {c : Bool} {P : Type 0} {Q : Option Stream → Type 0} {n low : ℕ} {base : List H2Event} (k : Bears c P Q n low) (f : Frame) (t : State) → Borne Q n low base t → Borne Q n low base (data_in f t)
 unfolding data_in data_taken
-borne_data_in {c} {Q} {n} {low} {base} k f t b =
+borne_data_in {c} {P} {Q} {n} {low} {base} k f t b =
     let changed : Borne Q n low base (record t { streams = change t.streams f.stream (with_text (length f.payload) (content f)) }) =
     borne_change f.stream (with_text (length f.payload) (content f)) t (λ st. refl) (k.texts (length f.payload) (content f)) b in
     let taken : Borne Q n low base (data_taken f t) =
@@ -278,10 +279,10 @@ borne_dropped : {Q : Option Stream → Type 0} {n low : ℕ} {base : List H2Even
 unfolding data_dropped
 borne_dropped f t b = borne_streams t (data_dropped f t) b refl refl b.numbers b.there
 
-borne_data : {c : Bool} {Q : Option Stream → Type 0} {n low : ℕ} {base : List H2Event} (k : Bears c Q n low) (f : Frame) (t : State) (o : Option Stream)
+borne_data : {c : Bool} {P : Type 0} {Q : Option Stream → Type 0} {n low : ℕ} {base : List H2Event} (k : Bears c P Q n low) (f : Frame) (t : State) (o : Option Stream)
     → Borne Q n low base t → Borne Q n low base (data_of f t o)
 borne_data k f t None b = borne_dropped f t b
-borne_data {c} {Q} {n} {low} {base} k f t (Some st) b =
+borne_data {c} {P} {Q} {n} {low} {base} k f t (Some st) b =
     either (Borne Q n low base) (is_open st) (data_in f t) (data_dropped f t) (borne_data_in k f t b) (borne_dropped f t b)
 
 -- ---- header blocks
@@ -298,10 +299,10 @@ borne_opens {Q} {n} {low} {base} m t above b =
       there = b.there;
     }
 
-borne_accepted : {c : Bool} {Q : Option Stream → Type 0} {n low : ℕ} {base : List H2Event} (k : Bears c Q n low) (m : ℕ) (ends : Bool) (fields : List Field) (t : State)
+borne_accepted : {c : Bool} {P : Type 0} {Q : Option Stream → Type 0} {n low : ℕ} {base : List H2Event} (k : Bears c P Q n low) (m : ℕ) (ends : Bool) (fields : List Field) (t : State)
     → t.opened < m → Borne Q n low base t → Borne Q n low base (accepted m ends fields t)
 unfolding accepted
-borne_accepted {c} {Q} {n} {low} {base} k m ends fields t above b =
+borne_accepted {c} {P} {Q} {n} {low} {base} k m ends fields t above b =
     let le : t.opened ≤ m = omega (arith, above) in
     let lower : low < m = omega (arith, above, b.opened) in
     let same : m ≤ m = omega arith in
@@ -316,21 +317,21 @@ borne_accepted {c} {Q} {n} {low} {base} k m ends fields t above b =
     } in
     borne_ended k ends m (event pushed (Opened m fields)) (borne_event pushed (Opened m fields) there (lower, same))
 
-borne_request : {c : Bool} {Q : Option Stream → Type 0} {n low : ℕ} {base : List H2Event} (k : Bears c Q n low) (m : ℕ) (ends : Bool) (fields : List Field) (t : State)
+borne_request : {c : Bool} {P : Type 0} {Q : Option Stream → Type 0} {n low : ℕ} {base : List H2Event} (k : Bears c P Q n low) (m : ℕ) (ends : Bool) (fields : List Field) (t : State)
     → t.opened < m → Borne Q n low base t → Borne Q n low base (request m ends fields t)
 unfolding request
-borne_request {c} {Q} {n} {low} {base} k m ends fields t above b =
+borne_request {c} {P} {Q} {n} {low} {base} k m ends fields t above b =
     let refused : (code : ℕ) → Borne Q n low base (reply (reset_frame m code) (opens m t)) = λ code. borne_reply (reset_frame m code) (opens m t) (borne_opens m t above b) in
     either (Borne Q n low base) (nat_le stream_limit (open_count t.streams)) (reply (reset_frame m 7) (opens m t))
     (if is_malformed_request fields then reply (reset_frame m 1) (opens m t) else accepted m ends fields t) (refused 7)
     (either (Borne Q n low base) (is_malformed_request fields) (reply (reset_frame m 1) (opens m t)) (accepted m ends fields t) (refused 1)
     (borne_accepted k m ends fields t above b))
 
-borne_response : {c : Bool} {Q : Option Stream → Type 0} {n low : ℕ} {base : List H2Event} (k : Bears c Q n low) (m : ℕ) (ends : Bool) (fields : List Field) (st : Stream) (t : State)
-    → c ≡ true → Borne Q n low base t → Borne Q n low base (response m ends fields st t)
+borne_response : {c : Bool} {P : Type 0} {Q : Option Stream → Type 0} {n low : ℕ} {base : List H2Event} (k : Bears c P Q n low) (m : ℕ) (ends : Bool) (fields : List Field) (st : Stream) (t : State)
+    → c ≡ true → P → Borne Q n low base t → Borne Q n low base (response m ends fields st t)
 unfolding response refused_response headed
-borne_response {c} {Q} {n} {low} {base} k m ends fields st t client b =
-    let gone : Borne Q n low base (on_stream m shut t) = borne_on m shut t (λ x. refl) k.gone k.shuts b in
+borne_response {c} {P} {Q} {n} {low} {base} k m ends fields st t client p b =
+    let gone : Borne Q n low base (on_stream m shut t) = borne_on m shut t (λ x. refl) k.gone (k.shuts p) b in
     let head : Borne Q n low base (on_stream m (λ x. record x { answered = true }) t) =
     borne_on m (λ x. record x { answered = true }) t (λ x. refl) k.gone (k.heads client) b in
     either (Borne Q n low base) st.answered (peer_ends m t)
@@ -342,10 +343,10 @@ borne_response {c} {Q} {n} {low} {base} k m ends fields st t client b =
     (borne_ended k ends m (event (on_stream m (λ x. record x { answered = true }) t) (Head m fields))
     (borne_event (on_stream m (λ x. record x { answered = true }) t) (Head m fields) head tt))))
 
-borne_head : {c : Bool} {Q : Option Stream → Type 0} {n low : ℕ} {base : List H2Event} (k : Bears c Q n low) (m : ℕ) (ends : Bool) (fields : List Field) (t : State)
-    → is_client t.role ≡ c → Borne Q n low base t → Borne Q n low base (head_of m ends fields t)
+borne_head : {c : Bool} {P : Type 0} {Q : Option Stream → Type 0} {n low : ℕ} {base : List H2Event} (k : Bears c P Q n low) (m : ℕ) (ends : Bool) (fields : List Field) (t : State)
+    → (c ≡ true → P) → is_client t.role ≡ c → Borne Q n low base t → Borne Q n low base (head_of m ends fields t)
 unfolding head_of
-borne_head {c} {Q} {n} {low} {base} k m ends fields t role b = by_role (is_client t.role) role
+borne_head {c} {P} {Q} {n} {low} {base} k m ends fields t may role b = by_role (is_client t.role) role
   where
     trailers : Borne Q n low base (if_open (stream_at t.streams m) t (λ st. peer_ends m t))
     trailers = open_or (Borne Q n low base) (stream_at t.streams m) t (λ st. peer_ends m t) b (λ st. borne_ends k m t b)
@@ -356,57 +357,57 @@ borne_head {c} {Q} {n} {low} {base} k m ends fields t role b = by_role (is_clien
 
     by_role : (a : Bool) → a ≡ c → Borne Q n low base (if a then if_open (stream_at t.streams m) t (λ st. response m ends fields st t)
         else (if nat_lt t.opened m then request m ends fields t else if_open (stream_at t.streams m) t (λ st. peer_ends m t)))
-    by_role true same = open_or (Borne Q n low base) (stream_at t.streams m) t (λ st. response m ends fields st t) b (λ st. borne_response k m ends fields st t (sym same) b)
+    by_role true same = open_or (Borne Q n low base) (stream_at t.streams m) t (λ st. response m ends fields st t) b (λ st. borne_response k m ends fields st t (sym same) (may (sym same)) b)
     by_role false same = by_number (nat_lt t.opened m) refl
 
-borne_decoded : {c : Bool} {Q : Option Stream → Type 0} {n low : ℕ} {base : List H2Event} (k : Bears c Q n low) (m : ℕ) (ends : Bool) (t : State) (r : Result Progress HpackFault)
-    → is_client t.role ≡ c → Borne Q n low base t → Borne Q n low base (decoded m ends t r)
-borne_decoded k m ends t (Ok p) role b =
-    borne_head k m ends p.fields (record t { block = None; decoder = p.table }) role (borne_streams t (record t { block = None; decoder = p.table }) b refl refl b.numbers b.there)
-borne_decoded k m ends t (Err e) role b = b
+borne_decoded : {c : Bool} {P : Type 0} {Q : Option Stream → Type 0} {n low : ℕ} {base : List H2Event} (k : Bears c P Q n low) (m : ℕ) (ends : Bool) (t : State) (r : Result Progress HpackFault)
+    → (c ≡ true → P) → is_client t.role ≡ c → Borne Q n low base t → Borne Q n low base (decoded m ends t r)
+borne_decoded k m ends t (Ok p) may role b =
+    borne_head k m ends p.fields (record t { block = None; decoder = p.table }) may role (borne_streams t (record t { block = None; decoder = p.table }) b refl refl b.numbers b.there)
+borne_decoded k m ends t (Err e) may role b = b
 
-borne_block : {c : Bool} {Q : Option Stream → Type 0} {n low : ℕ} {base : List H2Event} (k : Bears c Q n low) (f : Frame) (t : State)
-    → is_client t.role ≡ c → Borne Q n low base t → Borne Q n low base (block_of_headers f t)
+borne_block : {c : Bool} {P : Type 0} {Q : Option Stream → Type 0} {n low : ℕ} {base : List H2Event} (k : Bears c P Q n low) (f : Frame) (t : State)
+    → (c ≡ true → P) → is_client t.role ≡ c → Borne Q n low base t → Borne Q n low base (block_of_headers f t)
 unfolding block_of_headers block_grown
-borne_block {c} {Q} {n} {low} {base} k f t role b =
+borne_block {c} {P} {Q} {n} {low} {base} k f t may role b =
     either (Borne Q n low base) (ends_block f) (decoded f.stream (block_ends t.block f) t (read_block t.decoder (block_with t f))) (block_grown f t)
-    (borne_decoded k f.stream (block_ends t.block f) t (read_block t.decoder (block_with t f)) role b)
+    (borne_decoded k f.stream (block_ends t.block f) t (read_block t.decoder (block_with t f)) may role b)
     (borne_streams t (block_grown f t) b refl refl b.numbers b.there)
 
 -- ---- the other frames
 
-borne_reset : {c : Bool} {Q : Option Stream → Type 0} {n low : ℕ} {base : List H2Event} (k : Bears c Q n low) (f : Frame) (st : Stream) (t : State)
-    → Borne Q n low base t → Borne Q n low base (reset_of f st t)
+borne_reset : {c : Bool} {P : Type 0} {Q : Option Stream → Type 0} {n low : ℕ} {base : List H2Event} (k : Bears c P Q n low) (f : Frame) (st : Stream) (t : State)
+    → P → Borne Q n low base t → Borne Q n low base (reset_of f st t)
 unfolding reset_of cut_off
-borne_reset {c} {Q} {n} {low} {base} k f st t b =
+borne_reset {c} {P} {Q} {n} {low} {base} k f st t p b =
     let cut : Borne Q n low base (on_stream f.stream (λ x. record (shut x) { text = [] }) t) =
-    borne_on f.stream (λ x. record (shut x) { text = [] }) t (λ x. refl) k.gone k.cuts b in
+    borne_on f.stream (λ x. record (shut x) { text = [] }) t (λ x. refl) k.gone (k.cuts p) b in
     let owed : State = record (on_stream f.stream (λ x. record (shut x) { text = [] }) t) { owed = t.owed + length st.text } in
     let there : Borne Q n low base owed = borne_streams (on_stream f.stream (λ x. record (shut x) { text = [] }) t) owed cut refl refl cut.numbers cut.there in
     either (Borne Q n low base) (is_client t.role && (number_at f.payload 0 == 0) && not st.peer_open) (on_stream f.stream shut t) (cut_off f.stream (number_at f.payload 0) st t)
-    (borne_on f.stream shut t (λ x. refl) k.gone k.shuts b)
+    (borne_on f.stream shut t (λ x. refl) k.gone (k.shuts p) b)
     (borne_event owed (Reset f.stream (number_at f.payload 0)) there tt)
 
-borne_setting : {c : Bool} {Q : Option Stream → Type 0} {n low : ℕ} {base : List H2Event} (k : Bears c Q n low) (t : State) (x : ℕ × ℕ)
+borne_setting : {c : Bool} {P : Type 0} {Q : Option Stream → Type 0} {n low : ℕ} {base : List H2Event} (k : Bears c P Q n low) (t : State) (x : ℕ × ℕ)
     → Borne Q n low base t → Borne Q n low base (after_setting t x)
 unfolding after_setting
-borne_setting {c} {Q} {n} {low} {base} k t x b =
+borne_setting {c} {P} {Q} {n} {low} {base} k t x b =
     either (Borne Q n low base) (x.0 == 4) (record t { initial = x.1; streams = shifted t.initial x.1 t.streams }) (if x.0 == 3 then record t { most = Some x.1 } else t)
     (borne_streams t (record t { initial = x.1; streams = shifted t.initial x.1 t.streams }) b refl refl
     (rises_map 0 t.opened t.streams (shifted_one t.initial x.1) (shifted_number t.initial x.1) b.numbers)
     (at_map Q t.streams n (shifted_one t.initial x.1) (shifted_number t.initial x.1) (k.shifts t.initial x.1) b.there))
     (either (Borne Q n low base) (x.0 == 3) (record t { most = Some x.1 }) t (borne_streams t (record t { most = Some x.1 }) b refl refl b.numbers b.there) b)
 
-borne_settings : {c : Bool} {Q : Option Stream → Type 0} {n low : ℕ} {base : List H2Event} (k : Bears c Q n low) (t : State) (xs : List (ℕ × ℕ))
+borne_settings : {c : Bool} {P : Type 0} {Q : Option Stream → Type 0} {n low : ℕ} {base : List H2Event} (k : Bears c P Q n low) (t : State) (xs : List (ℕ × ℕ))
     → Borne Q n low base t → Borne Q n low base (after_settings t xs)
 unfolding after_settings
 borne_settings k t [] b = b
 borne_settings k t (x ∷ xs) b = borne_settings k (after_setting t x) xs (borne_setting k t x b)
 
-borne_all_settings : {c : Bool} {Q : Option Stream → Type 0} {n low : ℕ} {base : List H2Event} (k : Bears c Q n low) (f : Frame) (t : State)
+borne_all_settings : {c : Bool} {P : Type 0} {Q : Option Stream → Type 0} {n low : ℕ} {base : List H2Event} (k : Bears c P Q n low) (f : Frame) (t : State)
     → Borne Q n low base t → Borne Q n low base (settings f t)
 unfolding settings
-borne_all_settings {c} {Q} {n} {low} {base} k f t b =
+borne_all_settings {c} {P} {Q} {n} {low} {base} k f t b =
     either (Borne Q n low base) (has f 1) t (reply (spelled 4 1 0 []) (after_settings t (settings_of f.payload))) b
     (borne_reply (spelled 4 1 0 []) (after_settings t (settings_of f.payload)) (borne_settings k t (settings_of f.payload) b))
 
@@ -426,10 +427,10 @@ grant_number by st = by_open (is_open st)
     by_open true = refl
     by_open false = refl
 
-borne_update : {c : Bool} {Q : Option Stream → Type 0} {n low : ℕ} {base : List H2Event} (k : Bears c Q n low) (f : Frame) (t : State)
+borne_update : {c : Bool} {P : Type 0} {Q : Option Stream → Type 0} {n low : ℕ} {base : List H2Event} (k : Bears c P Q n low) (f : Frame) (t : State)
     → Borne Q n low base t → Borne Q n low base (window_update f t)
 unfolding window_update
-borne_update {c} {Q} {n} {low} {base} k f t b =
+borne_update {c} {P} {Q} {n} {low} {base} k f t b =
     either (Borne Q n low base) (f.stream == 0) (record t { send = t.send +ℤ pos (increment_of f.payload) })
     (record t { streams = change t.streams f.stream (with_grant (increment_of f.payload)) })
     (borne_streams t (record t { send = t.send +ℤ pos (increment_of f.payload) }) b refl refl b.numbers b.there)
@@ -437,27 +438,55 @@ borne_update {c} {Q} {n} {low} {base} k f t b =
 
 -- ---- a frame
 
-borne_effect : {c : Bool} {Q : Option Stream → Type 0} {n low : ℕ} {base : List H2Event} (k : Bears c Q n low) (t : State) (f : Frame)
-    → is_client t.role ≡ c → Borne Q n low base t → Borne Q n low base (effect t f)
-borne_effect {c} {Q} {n} {low} {base} k t f role b =
-    by_kind (Borne Q n low base) t f
-    (λ _. borne_data k f t (stream_at t.streams f.stream) b)
-    (borne_block k f t role b)
-    (λ _. open_or (Borne Q n low base) (stream_at t.streams f.stream) t (λ st. reset_of f st t) b (λ st. borne_reset k f st t b))
+-- what holds of each kind's effect holds of a frame's
+of_kind : (P : State → Type 0) (s : State) (f : Frame) → P (data_of f s (stream_at s.streams f.stream))
+    → (((f.kind == 1) || (f.kind == 9)) ≡ true → P (block_of_headers f s)) → ((f.kind == 3) ≡ true → P (if_open (stream_at s.streams f.stream) s (λ st. reset_of f st s)))
+    → P (settings f s) → P (ping f s) → P (goaway f s) → P (window_update f s) → P s → P (effect s f)
+unfolding effect
+of_kind P s f a b c d e g h i =
+    either P (f.kind == 0) (data_of f s (stream_at s.streams f.stream)) _ a
+    (chosen ((f.kind == 1) || (f.kind == 9)) (block_of_headers f s) _ b
+    (chosen (f.kind == 3) (if_open (stream_at s.streams f.stream) s (λ st. reset_of f st s)) _ c
+    (either P (f.kind == 4) (settings f s) _ d
+    (either P (f.kind == 6) (ping f s) _ e
+    (either P (f.kind == 7) (goaway f s) _ g
+    (either P (f.kind == 8) (window_update f s) s h i))))))
+  where
+    chosen : (b : Bool) → (x y : State) → (b ≡ true → P x) → P y → P (if b then x else y)
+    chosen true x y p q = p refl
+    chosen false x y p q = q
+
+-- The frame may shut a stream: it is RST_STREAM, or at a client of a header block.
+abbrev pub MayShutBy : Bool → Frame → Type 0
+MayShutBy client f = ((f.kind == 3) ≡ true) ⊎ ((client ≡ true) × (((f.kind == 1) || (f.kind == 9)) ≡ true))
+
+borne_effect : {c : Bool} {P : Type 0} {Q : Option Stream → Type 0} {n low : ℕ} {base : List H2Event} (k : Bears c P Q n low) (t : State) (f : Frame)
+    → (MayShutBy c f → P) → is_client t.role ≡ c → Borne Q n low base t → Borne Q n low base (effect t f)
+borne_effect {c} {P} {Q} {n} {low} {base} k t f may role b =
+    of_kind (Borne Q n low base) t f
+    (borne_data k f t (stream_at t.streams f.stream) b)
+    (λ e. borne_block k f t (λ client. may (inr (client, e))) role b)
+    (λ e. open_or (Borne Q n low base) (stream_at t.streams f.stream) t (λ st. reset_of f st t) b (λ st. borne_reset k f st t (may (inl e)) b))
     (borne_all_settings k f t b)
     (borne_ping f t b)
     (borne_goaway f t b)
     (borne_update k f t b)
     b
 
-pub borne_frame : {c : Bool} {Q : Option Stream → Type 0} {n low : ℕ} {base : List H2Event} (k : Bears c Q n low) (t : State) (f : Frame)
-    → is_client t.role ≡ c → Borne Q n low base t → Borne Q n low base (after_frame t f)
+-- a frame, where it is known which frames shut a stream
+pub borne_by : {c : Bool} {P : Type 0} {Q : Option Stream → Type 0} {n low : ℕ} {base : List H2Event} (k : Bears c P Q n low) (t : State) (f : Frame)
+    → (MayShutBy c f → P) → is_client t.role ≡ c → Borne Q n low base t → Borne Q n low base (after_frame t f)
 unfolding after_frame
-borne_frame {c} {Q} {n} {low} {base} k t f role b = either (Borne Q n low base) (is_some t.failed) t (judged t f (verdict t f)) b (by_verdict (verdict t f))
+borne_by {c} {P} {Q} {n} {low} {base} k t f may role b = either (Borne Q n low base) (is_some t.failed) t (judged t f (verdict t f)) b (by_verdict (verdict t f))
   where
     by_verdict : (o : Option ℕ) → Borne Q n low base (judged t f o)
     by_verdict (Some code) = borne_fail code (without_blocks t) (borne_streams t (without_blocks t) b refl refl b.numbers b.there)
-    by_verdict None = borne_effect k (record t { began = true }) f role (borne_streams t (record t { began = true }) b refl refl b.numbers b.there)
+    by_verdict None = borne_effect k (record t { began = true }) f may role (borne_streams t (record t { began = true }) b refl refl b.numbers b.there)
+
+-- a frame, where any may
+pub borne_frame : {c : Bool} {Q : Option Stream → Type 0} {n low : ℕ} {base : List H2Event} (k : Bears c (Unit {0}) Q n low) (t : State) (f : Frame)
+    → is_client t.role ≡ c → Borne Q n low base t → Borne Q n low base (after_frame t f)
+borne_frame k t f role b = borne_by k t f (λ _. tt) role b
 
 -- before anything is done
 pub borne_start : {Q : Option Stream → Type 0} {n : ℕ} (t : State) → Rises 0 t.opened t.streams → Q (stream_at t.streams n) → Borne Q n t.opened t.events t

@@ -51,20 +51,20 @@ broke_none s f on goes = by_verdict (verdict s f) refl
 
 -- ---- the numbers of the streams rise through frames
 
-pub bears_nothing : (c : Bool) (n low : ℕ) → Bears c (λ o. Unit {0}) n low
+pub bears_nothing : (c : Bool) (n low : ℕ) → Bears c (Unit {0}) (λ o. Unit {0}) n low
 bears_nothing c n low = record {
   gone = λ st e q. tt;
   texts = λ k text st q. tt;
   ends = λ st q. tt;
   heads = λ e st q. tt;
-  shuts = λ st q. tt;
-  cuts = λ st q. tt;
+  shuts = λ _ st q. tt;
+  cuts = λ _ st q. tt;
   grants = λ by st q. tt;
   shifts = λ old new st q. tt;
   fresh = λ m t e f. tt;
 }
 
-rises_on : (s : State) (f : Frame) → Rises 0 s.opened s.streams → Rises 0 (after_frame s f).opened (after_frame s f).streams
+pub rises_on : (s : State) (f : Frame) → Rises 0 s.opened s.streams → Rises 0 (after_frame s f).opened (after_frame s f).streams
 rises_on s f r = (borne_frame {n = 0} (bears_nothing (is_client s.role) 0 s.opened) s f refl (borne_start {Q = λ o. Unit {0}} {n = 0} s r tt)).numbers
 
 -- ---- an open half
@@ -218,14 +218,14 @@ half_as_passed (Some st) = by_half st.peer_open
         and_no true = refl
         and_no false = refl
 
-bears_closed : (c : Bool) (n low : ℕ) → n ≤ low → Bears c (λ o. half_in o ≡ false) n low
+bears_closed : (c : Bool) (n low : ℕ) → n ≤ low → Bears c (Unit {0}) (λ o. half_in o ≡ false) n low
 bears_closed c n low le = record {
   gone = λ st e q. refl;
   texts = λ k text st q. q;
   ends = λ st q. refl;
   heads = λ e st q. q;
-  shuts = λ st q. refl;
-  cuts = λ st q. refl;
+  shuts = λ _ st q. refl;
+  cuts = λ _ st q. refl;
   grants = λ by st q. granted by (is_open st) st q;
   shifts = λ old new st q. shift old new (is_open st) st q;
   fresh = λ m t above same. absurd (omega (arith, le, above, same));

@@ -21,3 +21,6 @@ pub mod LikeLemmas
 pub mod FacingLaws
 pub mod MoreLaws
 pub mod OwnFactLaws
+pub mod OwnLaws
+pub mod WaitLaws
+pub mod BroughtLaws

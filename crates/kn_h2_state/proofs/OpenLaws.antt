@@ -38,14 +38,14 @@ as_answered (Some st) = refl
 keeps_as : (n : ℕ) (s t : State) → AnsweredAs (answered_in (stream_at s.streams n)) (stream_at t.streams n) → KeepsAnswered n s t
 keeps_as n s t a st e = subst (AnsweredAs (answered_in (stream_at s.streams n))) e a
 
-bears_answered : (n low : ℕ) (b : Bool) → (low < n → b ≡ false) → Bears false (AnsweredAs b) n low
+bears_answered : (n low : ℕ) (b : Bool) → (low < n → b ≡ false) → Bears false (Unit {0}) (AnsweredAs b) n low
 bears_answered n low b new = record {
   gone = λ st e q. tt;
   texts = λ k text st q. q;
   ends = λ st q. q;
   heads = λ e st q. absurd cc;
-  shuts = λ st q. q;
-  cuts = λ st q. q;
+  shuts = λ _ st q. q;
+  cuts = λ _ st q. q;
   grants = λ by st q. grant by (is_open st) st q;
   shifts = λ old next st q. shift old next (is_open st) st q;
   fresh = λ m t above same. sym (new (subst (λ k. low < k) same above));

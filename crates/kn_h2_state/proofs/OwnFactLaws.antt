@@ -55,14 +55,14 @@ never : (b : Bool) → (b && false) ≡ true → ⊥
 never true e = cc
 never false e = cc
 
-bears_stops : (c : Bool) (n low : ℕ) → Bears c Stops n low
+bears_stops : (c : Bool) (n low : ℕ) → Bears c (Unit {0}) Stops n low
 bears_stops c n low = record {
   gone = λ st e q. tt;
   texts = λ k text st q. q;
   ends = λ st q e. absurd (never st.resets e);
   heads = λ e st q. q;
-  shuts = λ st q e. absurd cc;
-  cuts = λ st q e. absurd cc;
+  shuts = λ _ st q e. absurd cc;
+  cuts = λ _ st q e. absurd cc;
   grants = λ by st q. grant by (is_open st) st q;
   shifts = λ old new st q. shift old new (is_open st) st q;
   fresh = λ m t above same e. absurd cc;
@@ -186,6 +186,20 @@ role_effect : (s : State) (f : Frame) → Whose s (effect s f)
 role_effect s f =
     by_kind (Whose s) s f (λ _. role_data f s (stream_at s.streams f.stream)) (role_block f s)
     (λ _. open_or (Whose s) (stream_at s.streams f.stream) s (λ st. reset_of f st s) refl (λ st. role_reset f st s)) (role_all_settings f s) (role_others f s).0 (role_others f s).1 (role_others f s).2 refl
+
+pub role_frame : (s : State) (f : Frame) → (after_frame s f).role ≡ s.role
+role_frame s f = by_failed s.failed refl
+  where
+    role_fails : (code : ℕ) → Whose s (fail code (without_blocks s))
+    role_fails code = role_fail code (without_blocks s)
+
+    by_verdict : s.failed ≡ None → (o : Option ℕ) → verdict s f ≡ o → Whose s (after_frame s f)
+    by_verdict on (Some code) v = ap (λ (u : State). u.role) (after_frame-judged s f on ∙ ap (λ o. judged s f o) v) ∙ role_fails code
+    by_verdict on None v = ap (λ (u : State). u.role) (after_frame-judged s f on ∙ ap (λ o. judged s f o) v) ∙ role_effect (record s { began = true }) f
+
+    by_failed : (o : Option ℕ) → s.failed ≡ o → Whose s (after_frame s f)
+    by_failed (Some code) e = ap (λ (u : State). u.role) (after_frame-failed s f code e)
+    by_failed None e = by_verdict e (verdict s f) refl
 
 -- ---- a block
 

@@ -21,3 +21,6 @@ pub mod Hearing
 pub mod Opening
 pub mod InStep
 pub mod Preorder
+pub mod Own
+pub mod Waiting
+pub mod Brought

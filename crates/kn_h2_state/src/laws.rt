@@ -7,6 +7,9 @@ ghost use Rattle.kn_h2_state.specs.Laws.{AnyPieces, FailsFirst, FramesLeaveOther
 ghost use Rattle.kn_h2_state.specs.Hearing.{FramesAreHeard, ClosedTextStays, ClosedStaysClosed};
 ghost use Rattle.kn_h2_state.specs.InStep.{NextIsRead};
 ghost use Rattle.kn_h2_state.specs.Preorder.{MoreIsHeard, FramesKeepMore, MoreIsAccepted, OwnStepsAreHeard, HearsMoreInTurn, OwnFactsBegin, OwnFactsAreKept};
+ghost use Rattle.kn_h2_state.specs.Own.{FramesLeaveOwn, PiecesLeaveOwn, OverStaysOver};
+ghost use Rattle.kn_h2_state.specs.Waiting.{WaitsForAnswerFirst, WaitsForAnswerStays, PiecesWaitForAnswer};
+ghost use Rattle.kn_h2_state.specs.Brought.{FramesBringText, PiecesBringText};
 ghost use Rattle.kn_h2_state.specs.Settings.{SettingsAtOnce, LastFits};
 ghost use Rattle.kn_h2_state.specs.Opening.{FramesOpenAbove, AnsweredIsKept};
 
@@ -141,4 +144,27 @@ pub fn own_facts_stay()
 pub fn settings_at_once()
     ensures once { SettingsAtOnce }
     ensures fits { LastFits }
+{}
+
+/// What the peer's frames leave of this end's half of a stream that was opened: all that waits, and whether it is
+/// open, or nothing. Only RST_STREAM, and at a client a header block, may end it, and it never opens again.
+pub fn own_half_stays()
+    ensures frames { FramesLeaveOwn }
+    ensures pieces { PiecesLeaveOwn }
+    ensures over { OverStaysOver }
+{}
+
+/// At a server nothing waits to be sent on a stream that is not answered: so of a new connection, and it goes on to
+/// be so through frames, pieces of bytes, moves and calls.
+pub fn nothing_waits_for_its_answer()
+    ensures first { WaitsForAnswerFirst }
+    ensures stays { WaitsForAnswerStays }
+    ensures pieces { PiecesWaitForAnswer }
+{}
+
+/// Over a frame, and over a piece of the peer's bytes, the text of a stream that nobody took stays as it is, or is
+/// gone with a reset, or that there is text is among what was told behind the other events.
+pub fn text_comes_with_its_event()
+    ensures frames { FramesBringText }
+    ensures pieces { PiecesBringText }
 {}

@@ -43,8 +43,9 @@ pub use judgement::Judgement;
 pub use laws::{
     answered_is_kept, any_pieces, closed_text_stays, ends_are_told, fails_first,
     frames_are_answered, frames_are_heard, heads_are_written, more_is_heard, moves_are_written,
-    next_block_is_read, opened_is_above, others_are_left, own_facts_stay, own_steps_are_heard,
-    settings_at_once, text_grows, text_is_told, wire_splits, written_is_read,
+    next_block_is_read, nothing_waits_for_its_answer, opened_is_above, others_are_left,
+    own_facts_stay, own_half_stays, own_steps_are_heard, settings_at_once,
+    text_comes_with_its_event, text_grows, text_is_told, wire_splits, written_is_read,
 };
 pub use limits::{
     BLOCK_LIMIT, CONNECTION_WINDOW, DEFAULT_WINDOW, FRAME_LIMIT, FULL_OUT, GRANT_SIZE,
