@@ -1,3 +1,4 @@
 pub mod CountLemmas
 pub mod LengthLemmas
 pub mod RoomLemmas
+pub mod MessageLemmas

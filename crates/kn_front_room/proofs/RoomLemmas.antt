@@ -28,7 +28,7 @@ use Rattle.kn_server_core.specs.Steps.{Step}
 use Rattle.kn_server_core.specs.Texts.{error_cut}
 use Rattle.kn_server_core.specs.Server.{ignored, told, step, start, tunnels_of, from_link, from_front, link_lost, front_lost, second_reply_cuts, reply, reply_by_entry, awaited_reply, refused_reply, tunnel_opened, dial_failed, of_link, dial_at, data_down, open_down, tunnel_ended, ended_to, all_awaited_lost, all_held_lost, held_lost, front_left, all_asked, asked_at_loss, dial_chosen, dial_choice, host_choice, number_choice, dial_sent, is_tcp, data_up, open_up, close_from_front, close_own, dial_cancelled, own, held_at}
 use Rattle.kn_server_core.proofs.SoundLemmas.{passes}
-use Rattle.kn_front_room.specs.Rooms.{bytes_of, bytes_to, still_to_come, is_for, is_data_for, ComesInTime, IsShortPacket, IsShort, HasRoom}
+use Rattle.kn_front_room.specs.Rooms.{bytes_of, bytes_to, still_to_come, is_for, is_data_for, asks, ComesInTime, IsShortPacket, IsShort, HasRoom}
 use Rattle.kn_front_room.proofs.CountLemmas.{counted, count_more, count_without, count_put, count_parts, count_mapped, count_sorted, count_less}
 use Rattle.kn_front_room.proofs.LengthLemmas.{cut_short, reply_short, end_short, data_short}
 
@@ -341,6 +341,14 @@ data_given : (f : ℕ) (s : State) (bytes : List ℕ) (o : Option HeldEntry) →
 data_given f s bytes None = ignored_given f (length bytes + 120) s
 data_given f s bytes (Some e) = down_given f s bytes e.state e.front e.dial
 
+open_up_paid : (f : ℕ) (s : State) (bytes : List ℕ) (state : HeldState) (e : HeldEntry) → Paid f s (open_up s bytes state e)
+open_up_paid f s bytes Open e = told_paid f s _ (data_up_bytes f e.link e.connect_id (in_packets bytes))
+open_up_paid f s bytes Closing e = ignored_paid f s
+
+up_paid : (f : ℕ) (s : State) (bytes : List ℕ) (o : Option HeldEntry) → Paid f s (data_up s bytes o)
+up_paid f s bytes None = ignored_paid f s
+up_paid f s bytes (Some e) = open_up_paid f s bytes e.state e
+
 -- ---- the room
 
 -- two to come of each dial or tunnel at most
@@ -378,6 +386,17 @@ link_room f waiting s link (CloseReq id) short in_time h = paid_room f waiting s
 link_room f waiting s link (DialCls random) short in_time h = paid_room f waiting s (ignored s) (ignored_paid f s) h
 link_room f waiting s link (Other number) short in_time h = paid_room f waiting s (ignored s) (ignored_paid f s) h
 
+-- a packet of a front: data brings it nothing, and all else comes in time
+front_room : (f front waiting : ℕ) (s : State) (p : Packet) → (asks f front p ≡ true → waiting ≤ 65536) → HasRoom f waiting s → HasRoom f (waiting + bytes_to f (from_front s front p).outs) (from_front s front p).state
+front_room f front waiting s (Data id error bytes) in_time h = paid_room f waiting s (from_front s front (Data id error bytes)) (up_paid f s bytes (own front (held_at id s.held))) h
+front_room f front waiting s (DialReq protocol address random) in_time h = asked_room f front waiting s (from_front s front (DialReq protocol address random)) (eqb front f) refl in_time (from_front_asked f front s (DialReq protocol address random)) h
+front_room f front waiting s (DialRsp error id random) in_time h = asked_room f front waiting s (ignored s) (eqb front f) refl in_time (ignored_asked f front s) h
+front_room f front waiting s (CloseReq id) in_time h = asked_room f front waiting s (from_front s front (CloseReq id)) (eqb front f) refl in_time (from_front_asked f front s (CloseReq id)) h
+front_room f front waiting s (CloseRsp error id) in_time h = asked_room f front waiting s (ignored s) (eqb front f) refl in_time (ignored_asked f front s) h
+front_room f front waiting s (DialCls random) in_time h = asked_room f front waiting s (from_front s front (DialCls random)) (eqb front f) refl in_time (from_front_asked f front s (DialCls random)) h
+front_room f front waiting s Drain in_time h = asked_room f front waiting s (ignored s) (eqb front f) refl in_time (ignored_asked f front s) h
+front_room f front waiting s (Other number) in_time h = asked_room f front waiting s (ignored s) (eqb front f) refl in_time (ignored_asked f front s) h
+
 -- an event of one that is not up does nothing
 room_if : (f waiting : ℕ) (s : State) (b : Bool) (t : Step) → HasRoom f waiting s → HasRoom f (waiting + bytes_to f t.outs) t.state → HasRoom f (waiting + bytes_to f (cond b t (ignored s)).outs) (cond b t (ignored s)).state
 room_if f waiting s true t h k = k
@@ -388,7 +407,7 @@ room_kept f waiting s (LinkUp link identifiers) short in_time h = record { few =
 room_kept f waiting s (FrontUp front) short in_time h = record { few = h.few; room = omega (arith, h.room) }
 room_kept f waiting s (LinkPacket link p) short in_time h = room_if f waiting s (has_link link s.links) (from_link s link p) h (link_room f waiting s link p short in_time h)
 room_kept f waiting s (LinkLost link) short in_time h = room_if f waiting s (has_link link s.links) (link_lost s link) h (paid_room f waiting s (link_lost s link) (lost_paid f s link) h)
-room_kept f waiting s (FrontPacket front p) short in_time h = room_if f waiting s (is_up front s.fronts) (from_front s front p) h (asked_room f front waiting s (from_front s front p) (eqb front f) refl in_time (from_front_asked f front s p) h)
+room_kept f waiting s (FrontPacket front p) short in_time h = room_if f waiting s (is_up front s.fronts) (from_front s front p) h (front_room f front waiting s p in_time h)
 room_kept f waiting s (FrontLost front) short in_time h = room_if f waiting s (is_up front s.fronts) (front_lost s front) h (paid_room f waiting s (front_lost s front) (front_lost_paid f s front) h)
 
 pub room_first : (f : ℕ) (strategies : List Strategy) → HasRoom f 0 (start strategies)

@@ -2,7 +2,8 @@
 use Rattle.std.specs.Prelude.{◌≡◌, ℕ, ◌+◌, ◌*◌, ◌==◌, ◌≤◌, Bool, true, false, List, [], ◌∷◌, length, Option, Some, None, if◌then◌else◌}
 use Rattle.kn_packet.specs.declared.packet.Packet.{Packet}
 use Rattle.kn_packet.specs.declared.packet.Packet.TheVariants.{DialReq, DialRsp, CloseReq, CloseRsp, Data, DialCls, Drain, Other}
-use Rattle.kn_grpc.specs.Packets.{framed}
+use Rattle.kn_grpc.specs.Readers.{Whole}
+use Rattle.kn_grpc.specs.Packets.{framed, first_of}
 use Rattle.kn_route.specs.declared.strategy.Strategy.{Strategy}
 use Rattle.kn_tables.specs.declared.held_entry.HeldEntry.{HeldEntry}
 use Rattle.kn_tables.specs.Lists.{first_where, count_where}
@@ -52,9 +53,20 @@ is_data_for front s link (DialCls random) = false
 is_data_for front s link Drain = false
 is_data_for front s link (Other number) = false
 
--- a packet of the front itself, or data for it
+-- a packet of the front itself but data, which brings it nothing
+abbrev pub asks : ℕ → ℕ → Packet → Bool
+asks front other (Data connect_id error bytes) = false
+asks front other (DialReq protocol address random) = other == front
+asks front other (DialRsp error connect_id random) = other == front
+asks front other (CloseReq connect_id) = other == front
+asks front other (CloseRsp error connect_id) = other == front
+asks front other (DialCls random) = other == front
+asks front other Drain = other == front
+asks front other (Other number) = other == front
+
+-- such a packet, or data for the front
 abbrev pub may_wait : ℕ → State → ServerEvent → Bool
-may_wait front s (FrontPacket other packet) = other == front
+may_wait front s (FrontPacket other packet) = asks front other packet
 may_wait front s (LinkPacket link packet) = is_data_for front s link packet
 may_wait front s (LinkUp link identifiers) = false
 may_wait front s (LinkLost link) = false
@@ -95,6 +107,10 @@ pub record HasRoom (front waiting : ℕ) (s : State) : Type 0 where
 abbrev pub RoomIsKept : Type 0
 RoomIsKept = (front waiting : ℕ) (s : State) (event : ServerEvent) → IsShort event → ComesInTime front waiting s event → HasRoom front waiting s
     → HasRoom front (waiting + bytes_to front (step s event).outs) (step s event).state
+
+-- a packet that is the first of a stream is short
+abbrev pub MessagesAreShort : Type 0
+MessagesAreShort = (stream rest : List ℕ) (packet : Packet) → first_of stream ≡ Whole packet rest → IsShortPacket packet
 
 abbrev pub RoomAtFirst : Type 0
 RoomAtFirst = (front : ℕ) (strategies : List Strategy) → HasRoom front 0 (start strategies)

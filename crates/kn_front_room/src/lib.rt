@@ -3,4 +3,4 @@
 
 mod laws;
 
-pub use laws::front_room_is_kept;
+pub use laws::{front_room_is_kept, messages_are_short};

@@ -2,7 +2,7 @@
 use Rattle.std.proofs.Common.{◌≡◌, ℕ, ℤ, ◌+◌, Bool, true, false, cond, List, [], ◌∷◌, ◌++◌, refl, sym, ap, ◌∙◌, subst, codes, pos, inl, inr, ◌⊎◌, Option, Some, None, Result, Ok, Err}
 use Rattle.kn_hpack.specs.Fields.{Field}
 use Rattle.kn_packet.specs.declared.packet.Packet.{Packet}
-use Rattle.kn_packet.specs.declared.packet.Packet.TheVariants.{DialReq, Data}
+use Rattle.kn_packet.specs.declared.packet.Packet.TheVariants.{DialReq}
 use Rattle.kn_route.specs.declared.id_kind.IdKind.{IdKind}
 use Rattle.kn_grpc.specs.declared.call.Service.{Service}
 use Rattle.kn_grpc.specs.declared.call.Service.TheVariants.{Agent, Proxy}
@@ -35,10 +35,9 @@ use Rattle.kn_server_node.specs.declared.node.Node.{Node}
 use Rattle.kn_server_node.specs.Ends.{on_carrier, on_door, inlet_in, is_door, given}
 use Rattle.kn_server_node.specs.Losing.{with_loss}
 use Rattle.kn_server_node.specs.Doors as door
-use Rattle.kn_server_node.specs.Nodes.{at_place, on_end, output, outputs, event, to_link, is_too_long, link_ended, front_ended, count_up}
+use Rattle.kn_server_node.specs.Nodes.{at_place, on_end, output, outputs, event, is_too_long, link_ended, front_ended, count_up}
 use Rattle.kn_server_node.specs.Callers.{has_no_link, has_no_front, door_up, head_whole, head_came, DoorHears, link_up, front_up, refused_call, over_limit, service_in, call_for, call_came, for_agents_in, opened_by}
-use Rattle.kn_server_node.specs.Ends as one
-use Rattle.kn_server_node.specs.Calls.{wants_of, wants_on, out_of, shuts_of, Called, Opened, Bytes, Took, Lost, HearsBytes, Does, Handling, start}
+use Rattle.kn_server_node.specs.Calls.{Called, Opened, Bytes, Took, Lost, HearsBytes, Does, Handling, start}
 use Rattle.kn_server_node.specs.CoreEvents.{up_events, came_events, opened_events, heard_events, told_events, packet_events, first_events, inlet_events, early_events, handled_events, loss_events, step_events, steps_events, AreOfCall, Hears, Runs}
 use Rattle.kn_server_core.specs.declared.state.State.{State}
 use Rattle.kn_server_core.specs.Runs.{Tunnel, Opens, turn_at, after, history, CarriesBoth, IsOfOthers}
@@ -49,7 +48,7 @@ use Rattle.kn_tables.specs.declared.held_entry.HeldEntry.{HeldEntry}
 use Rattle.kn_tables.specs.Lists.{first_where}
 use Rattle.kn_tables.specs.Holding.{is_held_dial}
 use Rattle.kn_route.specs.declared.strategy.Strategy.{Strategy}
-use Rattle.kn_server_node.specs.Steps.{heard, hear, packet_event, handle_packet, handle, handle_inlet, early_event, early_handled, handle_on, lose, follow, Step, Follow, Hear, Handle, Look, Write, Forget, after_step, Makes, Reaches}
+use Rattle.kn_server_node.specs.Steps.{heard, hear, packet_event, handle, handle_inlet, early_event, handle_on, lose, follow, Step, Follow, Hear, Handle, Look, Write, Forget, after_step, Makes}
 
 abbrev pub Heard_as : Node → List ServerEvent → Node → Type 0
 Heard_as old es new = new.core ≡ after old.core es

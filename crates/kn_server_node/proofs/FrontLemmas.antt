@@ -1,9 +1,8 @@
 -- What stands at the front of a stream, seen and owned.
-use Rattle.std.proofs.Common.{◌≡◌, List, [], refl, ◌∙◌, sym, ap}
+use Rattle.std.proofs.Common.{◌≡◌, List, [], ◌∙◌, sym, ap}
 use Rattle.std.proofs.Common.{ℕ}
 use Rattle.kn_packet.specs.declared.packet.Packet.{Packet}
-use Rattle.kn_packet.specs.Messages.{message}
-use Rattle.kn_grpc.specs.Readers.{First, Less, Whole, Bad}
+use Rattle.kn_grpc.specs.Readers.{First}
 use Rattle.kn_server_node.specs.declared.front.Seen.{Seen}
 use Rattle.kn_server_node.specs.declared.front.Seen.TheVariants as seen
 use Rattle.kn_server_node.specs.declared.front.Front.{Front}

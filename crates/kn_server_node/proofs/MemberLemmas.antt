@@ -1,11 +1,11 @@
 -- Members of other numbers stay, and one in its place is found there.
-use Rattle.std.proofs.Common.{◌≡◌, ℕ, zero, suc, ◌+◌, ◌<◌, ◌≤◌, Bool, true, false, cond, List, [], ◌∷◌, length, get_or, set, refl, sym, ap, ◌∙◌, arith, Some, None, Option}
+use Rattle.std.proofs.Common.{◌≡◌, ℕ, zero, suc, ◌≤◌, Bool, true, false, cond, List, [], ◌∷◌, length, set, refl, sym, ap, ◌∙◌, arith, Some, None, Option}
 use Rattle.std.specs.Prelude.{eqb, ltb, nat_eq, ◌||◌, slice_get}
 use Rattle.std.specs.List.{insert, remove, list_any}
 use Rattle.std.proofs.lemmas.Bool.{eqb-true, eqb-false, eq-eqb}
 use Rattle.std.proofs.lemmas.List.{set-set}
 use Rattle.std.proofs.lemmas.List.Edits.{length-insert}
-use Rattle.kn_rising.specs.Members.{Members, AreMembers, place_in, rank_in, at, with, change, changed, inserted, one_more, without}
+use Rattle.kn_rising.specs.Members.{Members, place_in, rank_in, at, with, change, changed, inserted, one_more, without}
 use Rattle.kn_rising.proofs.PlaceLemmas.{place-here, place-skip, remove_past}
 
 -- ---- lists by place

@@ -1,6 +1,6 @@
 -- The notes of connections are kept.
-use Rattle.std.proofs.Common.{◌≡◌, ℕ, ℤ, Bool, true, false, cond, List, [], ◌∷◌, ◌++◌, length, refl, sym, ap, ◌∙◌, subst, arith, Some, None, Option}
-use Rattle.std.specs.Prelude.{eqb, ◌||◌, ◌&&◌, not, filter, Result, Ok, Err, OnOk, OnErr}
+use Rattle.std.proofs.Common.{◌≡◌, ℕ, Bool, true, false, cond, List, [], ◌∷◌, ◌++◌, length, refl, sym, ◌∙◌, subst, Some, None, Option}
+use Rattle.std.specs.Prelude.{eqb, ◌||◌, ◌&&◌, not, Result, Ok, Err, OnOk, OnErr}
 use Rattle.std.proofs.lemmas.Bool.{eqb-true, eqb-false, eq-eqb}
 use Rattle.kn_packet.specs.declared.packet.Packet.{Packet}
 use Rattle.kn_packet.specs.declared.packet.Packet.TheVariants.{DialReq, DialRsp, CloseReq, CloseRsp, Data, DialCls, Drain, Other}
@@ -13,7 +13,7 @@ use Rattle.kn_ends.specs.declared.carrier.Carrier.{Carrier}
 use Rattle.kn_ends.specs.Numbers.{at as inlet_by}
 use Rattle.kn_ends.specs.Carriers.{inlet_at, on_conn, queued}
 use Rattle.kn_ends.specs.Queues.{is_empty}
-use Rattle.kn_rising.specs.Members.{Members, AreMembers, place_in, at, with, change, changed, inserted, without, none}
+use Rattle.kn_rising.specs.Members.{Members, place_in, at, with, change, changed, inserted, without, none}
 use Rattle.kn_server_node.specs.declared.door.Door.{Door}
 use Rattle.kn_server_node.specs.declared.end.End.{End}
 use Rattle.kn_server_node.specs.declared.end.End.TheVariants.{Streams, Connect}
@@ -21,7 +21,7 @@ use Rattle.kn_server_node.specs.declared.notes.Notes.{Notes}
 use Rattle.kn_server_node.specs.Doors as door
 use Rattle.kn_server_node.specs.Doors.{opened, refused}
 use Rattle.kn_server_node.specs.Ends.{given, may_write, is_over, Filled, FillsAt, HearsHead}
-use Rattle.kn_server_node.specs.Noting.{is_in, noted, is_another, without_number, inlet_has, any_in, has_front, AreNoted, Keeps, AreIn}
+use Rattle.kn_server_node.specs.Noting.{is_in, noted, without_number, inlet_has, any_in, has_front, AreNoted, Keeps, AreIn}
 use Rattle.kn_server_node.proofs.MemberLemmas.{at_with, length_set, with_others, change_others, change_same, without_others, inserted_others}
 
 -- ---- numbers

@@ -1,5 +1,5 @@
 -- What is written on a connection is many steps, and steps follow on one another.
-use Rattle.std.proofs.Common.{◌≡◌, ℕ, ℤ, Bool, true, false, cond, List, [], ◌∷◌, ◌++◌, refl, sym, ap, ◌∙◌, subst, Option, Some, None, IsTrue}
+use Rattle.std.proofs.Common.{◌≡◌, ℕ, Bool, true, false, List, [], ◌∷◌, ◌++◌, refl, sym, ap, ◌∙◌, Option, Some, None, IsTrue}
 use Rattle.kn_h2_state.specs.declared.moves.Move.{Move}
 use Rattle.kn_h2_state.specs.declared.state.State as h2
 use Rattle.kn_h2_state.specs.Moves as moves
@@ -11,12 +11,10 @@ use Rattle.kn_server_node.specs.declared.end.End.{End}
 use Rattle.kn_server_node.specs.declared.end.End.TheVariants.{Streams, Connect}
 use Rattle.kn_server_node.specs.declared.node.Node.{Node}
 use Rattle.kn_server_node.specs.declared.standing.Standing.{Standing}
-use Rattle.kn_server_node.specs.declared.standing.Standing.TheVariants as standing
-use Rattle.kn_server_node.specs.Ends.{on_carrier, inlet_in, may_write, is_over, FilledOne, Filled, FillsAt}
-use Rattle.kn_server_node.specs.Nodes.{on_end}
-use Rattle.kn_server_node.specs.Steps.{Step, Follow, Hear, Handle, Look, Write, Forget, MayDo, after_step, follow, hear, handle, handle_inlet, handle_on, Makes, Reaches}
+use Rattle.kn_server_node.specs.Ends.{on_carrier, inlet_in, is_over, FilledOne, Filled, FillsAt}
+use Rattle.kn_server_node.specs.Steps.{Step, Follow, Hear, Handle, Look, Write, Forget, MayDo, after_step, follow, hear, handle_inlet, handle_on, Makes, Reaches}
 use Rattle.kn_ends.specs.declared.inlet.Inlet.{Inlet}
-use Rattle.kn_server_node.specs.Fronts.{IsStanding, IsInletStanding, handle_standing, first_as}
+use Rattle.kn_server_node.specs.Fronts.{IsStanding, IsInletStanding, handle_standing}
 use Rattle.kn_ends.specs.Queues.{is_empty}
 use Rattle.kn_server_node.proofs.MemberLemmas.{at_with, with_with, with_same}
 

@@ -28,7 +28,7 @@ use Rattle.kn_ends.specs.declared.who.Who.{Who}
 use Rattle.kn_ends.specs.declared.who.Who.TheVariants as who
 use Rattle.kn_ends.specs.declared.inlet.Inlet.{Inlet}
 use Rattle.kn_ends.specs.Carriers.{taken_from, after_write, after_read, on_inlet, with_end, with_reset, finish_stream, reset_stream, fed_with, without_events}
-use Rattle.kn_rising.specs.Members.{Members, place_in, at, change, inserted, without}
+use Rattle.kn_rising.specs.Members.{Members, place_in, at, change, inserted}
 use Rattle.kn_rising.specs.Stirring.{is_stirred}
 use Rattle.kn_server_node.specs.declared.end.End.{End}
 use Rattle.kn_server_node.specs.declared.end.End.TheVariants.{Streams, Connect}
@@ -42,7 +42,7 @@ use Rattle.kn_server_node.specs.Ends.{on_carrier, on_door, inlet_in, given, clos
 use Rattle.kn_server_node.specs.Nodes.{on_end, place_changed, place_stirred, output, outputs, event, is_too_long, link_ended, front_ended, count_up}
 use Rattle.kn_server_node.specs.Callers.{collect, answer_fields, answered_call, place_of, has_no_link, has_no_front, door_up, head_whole, head_came, DoorHears, link_up, front_up, refused_call, over_limit, service_in, call_for, call_came, for_agents_in, opened_by, counts}
 use Rattle.kn_server_node.specs.Calls.{Called, Opened, Bytes, Took, Lost, HearsBytes, Does, Handling}
-use Rattle.kn_server_node.specs.Steps.{heard, hear, packet_event, handle, handle_inlet, early_event, early_handled, handle_on, lose, follow, losses_at, Step, Follow, Hear, Handle, Look, Write, Forget, MayDo, after_step, Makes}
+use Rattle.kn_server_node.specs.Steps.{heard, hear, packet_event, handle, handle_inlet, early_event, handle_on, lose, follow, Step, Follow, Hear, Handle, Look, Write, Forget, MayDo, after_step, Makes}
 use Rattle.kn_server_node.specs.Stirs.{Stirs}
 use Rattle.kn_server_node.proofs.MemberLemmas.{length_set, with_others, change_others, change_same, without_others, without_same, inserted_others, inserted_same}
 

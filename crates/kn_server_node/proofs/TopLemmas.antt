@@ -1,5 +1,5 @@
 -- No step changes the greatest number of a connection.
-use Rattle.std.proofs.Common.{◌≡◌, ℕ, ℤ, ◌+◌, Bool, true, false, cond, List, [], ◌∷◌, ◌++◌, refl, sym, ap, ◌∙◌, Option, Some, None, Result, Ok, Err}
+use Rattle.std.proofs.Common.{◌≡◌, ℕ, ℤ, ◌+◌, Bool, true, false, cond, List, [], ◌∷◌, ◌++◌, refl, ap, ◌∙◌, Option, Some, None, Result, Ok, Err}
 use Rattle.kn_hpack.specs.Fields.{Field}
 use Rattle.kn_packet.specs.declared.packet.Packet.{Packet}
 use Rattle.kn_route.specs.declared.id_kind.IdKind.{IdKind}
@@ -33,11 +33,11 @@ use Rattle.kn_server_node.specs.declared.loss.Loss.TheVariants.{OfLink, OfFront}
 use Rattle.kn_server_node.specs.declared.node.Node.{Node}
 use Rattle.kn_server_node.specs.Ends.{on_carrier, on_door, inlet_in}
 use Rattle.kn_server_node.specs.Doors as door
-use Rattle.kn_server_node.specs.Nodes.{on_end, output, outputs, event, to_link, is_too_long, link_ended, front_ended, count_up}
+use Rattle.kn_server_node.specs.Nodes.{on_end, output, outputs, event, is_too_long, link_ended, front_ended, count_up}
 use Rattle.kn_server_node.specs.Callers.{has_no_link, has_no_front, door_up, head_whole, head_came, DoorHears, link_up, front_up, refused_call, over_limit, service_in, call_for, call_came, for_agents_in, opened_by}
 use Rattle.kn_server_node.specs.Ends as one
 use Rattle.kn_server_node.specs.Calls.{wants_of, wants_on, out_of, shuts_of, Called, Opened, Bytes, Took, Lost, HearsBytes, Does, Handling}
-use Rattle.kn_server_node.specs.Steps.{heard, hear, packet_event, handle_packet, handle, handle_inlet, early_event, early_handled, handle_on, lose, follow, Step, Follow, Hear, Handle, Look, Write, Forget, after_step, Makes, Reaches}
+use Rattle.kn_server_node.specs.Steps.{heard, hear, packet_event, handle, handle_inlet, early_event, handle_on, lose, follow, Step, Follow, Hear, Handle, Look, Write, Forget, after_step, Makes, Reaches}
 
 by_bool : (n : ℕ) (b : Bool) (x y : Node) → x.top ≡ n → y.top ≡ n → (cond b x y).top ≡ n
 by_bool n true x y p q = p

@@ -1,5 +1,5 @@
 -- Calls that come: heads on streams, and heads of CONNECT.
-use Rattle.std.specs.Prelude.{◌≡◌, ℕ, pos, ◌+◌, nat_le, Bool, true, false, not, ◌&&◌, ◌||◌, List, [], ◌∷◌, ◌++◌, length, filter, codes, Option, Some, None, Result, Ok, Err, if◌then◌else◌}
+use Rattle.std.specs.Prelude.{◌≡◌, ℕ, pos, ◌+◌, nat_le, Bool, true, false, ◌||◌, List, [], ◌∷◌, ◌++◌, length, filter, codes, Option, Some, None, Result, Ok, Err, if◌then◌else◌}
 use Rattle.kn_hpack.specs.Fields.{Field}
 use Rattle.kn_packet.specs.declared.packet.Packet.TheVariants.{DialReq}
 use Rattle.kn_route.specs.declared.id_kind.IdKind.{IdKind}
@@ -10,7 +10,6 @@ use Rattle.kn_grpc.specs.declared.call.CallFault.{CallFault}
 use Rattle.kn_grpc.specs.declared.call.CallFault.TheVariants.{Path}
 use Rattle.kn_grpc.specs.Calls.{call_in, service_in_path}
 use Rattle.kn_grpc.specs.CallHeads.{content_type, server_fields, status_field, refusal_fields}
-use Rattle.kn_connect.specs.declared.answer.ConnectFault.{ConnectFault}
 use Rattle.kn_connect.specs.declared.answer.ConnectError.{ConnectError}
 use Rattle.kn_connect.specs.declared.answer.ConnectError.TheVariants.{NoMemory, Fault}
 use Rattle.kn_connect.specs.declared.answer.ConnectAnswer.{ConnectAnswer}
@@ -20,8 +19,7 @@ use Rattle.kn_server_core.specs.declared.event.ServerEvent.TheVariants.{LinkUp, 
 use Rattle.kn_ends.specs.declared.who.Who.{Who}
 use Rattle.kn_ends.specs.declared.who.Who.TheVariants as who
 use Rattle.kn_ends.specs.Carriers.{finish_stream, reset_stream, without_events}
-use Rattle.kn_rising.specs.Members.{Members, at, change, inserted}
-use Rattle.kn_server_node.specs.declared.door.Door.{Door}
+use Rattle.kn_rising.specs.Members.{Members, at, inserted}
 use Rattle.kn_server_node.specs.declared.end.End.{End}
 use Rattle.kn_server_node.specs.declared.end.End.TheVariants.{Streams, Connect}
 use Rattle.kn_server_node.specs.declared.place.Place.{Place}

@@ -1,10 +1,9 @@
 -- The calls of the server node.
-use Rattle.std.specs.Prelude.{◌≡◌, ℕ, ◌<◌, nat_lt, Bool, true, false, not, ◌&&◌, List, [], ◌∷◌, ◌++◌, length, Option, Some, None}
+use Rattle.std.specs.Prelude.{◌≡◌, ℕ, Bool, false, not, ◌&&◌, List, [], ◌∷◌, ◌++◌, Option, Some, None}
 use Rattle.kn_route.specs.declared.strategy.Strategy.{Strategy}
 use Rattle.kn_server_core.specs.Server as server
 use Rattle.kn_ends.specs.Carriers.{fed_with, is_live}
 use Rattle.kn_rising.specs.Members.{at, inserted, none}
-use Rattle.kn_server_node.specs.declared.door.Door.{Door}
 use Rattle.kn_server_node.specs.declared.end.End.{End}
 use Rattle.kn_server_node.specs.declared.end.End.TheVariants.{Streams, Connect}
 use Rattle.kn_server_node.specs.declared.kind.ServerKind.{ServerKind}

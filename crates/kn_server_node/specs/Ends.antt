@@ -1,5 +1,5 @@
 -- The connections of the server by their numbers.
-use Rattle.std.specs.Prelude.{◌≡◌, ℕ, ◌+◌, ◌==◌, nat_lt, Bool, true, false, not, ◌&&◌, ◌||◌, List, [], ◌∷◌, ◌++◌, length, Option, Some, None, is_some, Result, if◌then◌else◌, IsTrue}
+use Rattle.std.specs.Prelude.{◌≡◌, ℕ, Bool, true, false, not, ◌||◌, List, [], ◌∷◌, ◌++◌, length, Option, Some, None, Result, IsTrue}
 use Rattle.kn_hpack.specs.Fields.{Field}
 use Rattle.kn_packet.specs.declared.packet.Packet.{Packet}
 use Rattle.kn_connect.specs.declared.answer.ConnectError.{ConnectError}
@@ -16,13 +16,12 @@ use Rattle.kn_ends.specs.declared.inlet.Inlet.{Inlet}
 use Rattle.kn_ends.specs.declared.carrier.Carrier.{Carrier}
 use Rattle.kn_ends.specs.Carriers as carriers
 use Rattle.kn_ends.specs.Carriers.{inlet_at, queue_bytes, finish_stream, deafened, answer_stream, with_inlet, with_loss, can_write, counts, is_live, is_gone, out_of, Fills}
-use Rattle.kn_rising.specs.Members.{Members, at, with, change, none}
+use Rattle.kn_rising.specs.Members.{Members, at, with}
 use Rattle.kn_server_node.specs.declared.door.Door.{Door}
 use Rattle.kn_server_node.specs.declared.end.End.{End}
 use Rattle.kn_server_node.specs.declared.end.End.TheVariants.{Streams, Connect}
 use Rattle.kn_server_node.specs.declared.kind.ServerKind.{ServerKind}
 use Rattle.kn_server_node.specs.declared.kind.ServerKind.TheVariants as kinds
-use Rattle.kn_server_node.specs.declared.place.Place.{Place}
 use Rattle.kn_server_node.specs.Doors as door
 use Rattle.kn_ends.specs.Queues.{is_empty}
 

@@ -11,3 +11,4 @@ pub mod Fronts
 pub mod Least
 pub mod Tasks
 pub mod CoreEvents
+pub mod FrontRooms

@@ -1,5 +1,5 @@
 -- Losses that are to follow.
-use Rattle.std.specs.Prelude.{ℕ, nat_lt, ◌==◌, Bool, true, false, List, [], ◌∷◌, if◌then◌else◌}
+use Rattle.std.specs.Prelude.{nat_lt, Bool, true, false, List, [], ◌∷◌, if◌then◌else◌}
 use Rattle.kn_server_node.specs.declared.loss.Loss.{Loss}
 use Rattle.kn_server_node.specs.declared.loss.Loss.TheVariants.{OfLink, OfFront}
 

@@ -1,5 +1,5 @@
 -- The steps of the server node.
-use Rattle.std.specs.Prelude.{◌≡◌, ℕ, ℤ, Bool, true, false, List, [], ◌∷◌, ◌++◌, Option, Some, None}
+use Rattle.std.specs.Prelude.{◌≡◌, ℕ, ℤ, true, false, List, [], ◌∷◌, ◌++◌, Option, Some, None}
 use Rattle.kn_packet.specs.declared.packet.Packet.{Packet}
 use Rattle.kn_packet.specs.declared.packet.Packet.TheVariants.{Data}
 use Rattle.kn_grpc.specs.Readers.{First, Less, Whole, Bad}

@@ -1,5 +1,5 @@
 -- What may be made next.
-use Rattle.std.specs.Prelude.{◌≡◌, ℕ, true, false, [], Bool}
+use Rattle.std.specs.Prelude.{◌≡◌, ℕ, true, false, []}
 use Rattle.kn_server_node.specs.declared.candidate.Candidate.{Candidate}
 use Rattle.kn_server_node.specs.declared.task.Task.{Task}
 use Rattle.kn_server_node.specs.declared.task.Task.TheVariants as task

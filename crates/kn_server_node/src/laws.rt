@@ -1,5 +1,6 @@
 //! Laws over what a node does, whatever bytes come.
 
+ghost use Rattle.kn_server_node.specs.FrontRooms.{EventsDropNone, StepsAreInTime};
 ghost use Rattle.kn_server_node.specs.CoreEvents.{CallsAreHeard, BytesStayInTunnels, OthersEndNoTunnel, CoresAreOrderly};
 
 /// Each call is a list of events that the core hears: of each packet the one of the stream that it stood on, and of each
@@ -19,4 +20,11 @@ pub fn bytes_stay_in_tunnels()
 /// other link's tunnel.
 pub fn bad_links_end_no_other_tunnel()
     ensures { OthersEndNoTunnel }
+{}
+
+/// An event that comes in time drops no packet for a front, and leaves room for all that may still come; and what a step
+/// brings the core comes in time, since all else waits.
+pub fn no_packet_for_a_front_is_dropped()
+    ensures events { EventsDropNone }
+    ensures steps { StepsAreInTime }
 {}

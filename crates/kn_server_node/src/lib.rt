@@ -36,7 +36,10 @@ pub use connections::Connections;
 pub use door::Door;
 pub use end::End;
 pub use kind::ServerKind;
-pub use laws::{bad_links_end_no_other_tunnel, bytes_stay_in_tunnels, calls_are_heard};
+pub use laws::{
+    bad_links_end_no_other_tunnel, bytes_stay_in_tunnels, calls_are_heard,
+    no_packet_for_a_front_is_dropped,
+};
 pub use loss::Loss;
 pub use losses::Losses;
 pub use node::Node;

@@ -1,2 +1,3 @@
 pub mod QueueLemmas
 pub mod OrderLemmas
+pub mod StepLemmas

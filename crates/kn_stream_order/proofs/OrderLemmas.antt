@@ -140,7 +140,7 @@ fine_on {n} {most} m f t s b = fine_streams t (on_stream m f t) b refl refl (sho
 pub shut_shortens : Shortens shut
 shut_shortens = record { number = λ st. refl; queue = λ st. omega arith }
 
-keeps_shortens : (f : Stream → Stream) → ((st : Stream) → (f st).number ≡ st.number) → ((st : Stream) → (f st).queue ≡ st.queue) → Shortens f
+pub keeps_shortens : (f : Stream → Stream) → ((st : Stream) → (f st).number ≡ st.number) → ((st : Stream) → (f st).queue ≡ st.queue) → Shortens f
 keeps_shortens f number same = record { number = number; queue = λ st. rw (same st) (omega arith) }
 
 fine_ends : {n most low : ℕ} {base : List H2Event} (m : ℕ) (t : State) → Fine n most low base t → Fine n most low base (peer_ends m t)

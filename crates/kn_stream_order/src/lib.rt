@@ -1,6 +1,6 @@
-// In which order streams of a connection are told as opened, and that no frame makes a queue longer.
+// In which order streams of a connection are told as opened, and that no frame and no step of this end makes a queue longer.
 #![tactic(auto)]
 
 mod laws;
 
-pub use laws::pieces_keep_order;
+pub use laws::{own_steps_keep_queues, pieces_keep_order};

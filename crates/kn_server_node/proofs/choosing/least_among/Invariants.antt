@@ -1,5 +1,5 @@
 use Rattle.std.proofs.Common.{◌≡◌, drop, None}
-use Rattle.kn_server_node.specs.Least.{can_in, least_of}
+use Rattle.kn_server_node.specs.Least.{least_of}
 use Rattle.kn_server_node.proofs.choosing.least_among.Given as goal
 
 abbrev pub invariant-loop-conn : goal.invariant-loop-conn

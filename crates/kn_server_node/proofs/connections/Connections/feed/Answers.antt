@@ -1,6 +1,5 @@
-use Rattle.kn_ends.specs.Carriers.{on_inlet, after_read, taken_from, finish_stream, reset_stream, with_end, with_reset, fed_with, without_events}
-use Rattle.kn_server_node.specs.Doors as door
-use Rattle.kn_server_node.specs.Ends.{on_carrier, on_door, accepted, closed, lost, took}
+use Rattle.kn_ends.specs.Carriers.{fed_with}
+use Rattle.kn_server_node.specs.Ends.{on_carrier}
 use Rattle.kn_server_node.proofs.NoteLemmas.{keeps_noted, change_noted, none_noted}
 use Rattle.kn_server_node.proofs.connections.Connections.feed.Goals as goal
 
