@@ -147,7 +147,7 @@ head_sums n m block = by_test (leb (length block) frame_limit)
     by_test false = open_head n m (take frame_limit block) (more_list (length block) m (drop frame_limit block)) (more_sums n (length block) m (drop frame_limit block))
 
 -- trailers end the stream once
-trailer_sums : (n m : ℕ) (block : List ℕ) → Sums n (head_list m 1 block) [] 0 0 (once (eqb m n))
+pub trailer_sums : (n m : ℕ) (block : List ℕ) → Sums n (head_list m 1 block) [] 0 0 (once (eqb m n))
 unfolding head_list
 trailer_sums n m block = by_test (leb (length block) frame_limit)
   where

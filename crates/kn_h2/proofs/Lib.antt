@@ -27,3 +27,4 @@ pub mod OwnWindows
 pub mod AnsweredLemmas
 pub mod FrameWindows
 pub mod ConnectionWindows
+pub mod SpendingLemmas

@@ -9,3 +9,4 @@ pub mod Steady
 pub mod Written
 pub mod Windows
 pub mod Answered
+pub mod Spending

@@ -3,7 +3,10 @@
 ghost use Rattle.kn_h2_state.specs.declared.role.Role.{Role};
 ghost use Rattle.kn_h2.specs.Written.{OpeningIsWritten, CallsAreWritten, FillsAreWritten, OpeningsAreCarried, CallsAreCarried, MovesBring, FillsBring};
 ghost use Rattle.kn_h2.specs.Answered.{FramesWrite, PiecesWrite, AnswersBring, PiecesBring};
+ghost use Rattle.kn_h2.specs.Spending.{FillsSpend, OpeningsSpendNothing, CallsSpendNothing, AnswersSpendNothing, FramesTakeAll};
 ghost use Rattle.kn_h2.specs.Windows.{MoveShifts, MovesShift, ConnectionRises, FramesShift, FramesShiftAll};
+
+use crate::sending::sending_laws;
 
 /// What this end begins with, and what its calls and `fill` append to what waits for the socket, are whole frames
 /// within the limits.
@@ -54,3 +57,21 @@ pub fn windows_follow()
     ensures stream { FramesShift }
     ensures connection { FramesShiftAll }
 {}
+
+/// The DATA that `fill` writes, of all streams together, is what the connection's sending window falls by, and nothing
+/// else that an end writes has any. The receiving window of the end that reads it falls by as much.
+pub fn data_is_spent()
+    ensures fills { FillsSpend }
+    ensures opening { OpeningsSpendNothing }
+    ensures calls { CallsSpendNothing }
+    ensures answers { AnswersSpendNothing }
+    ensures taken { FramesTakeAll }
+{
+    calls_are_written();
+    written_is_carried();
+    answers_are_written();
+    windows_follow();
+    sending_laws();
+    kn_h2_state::written_is_read();
+    kn_h2_state::all_data_splits();
+}

@@ -33,7 +33,8 @@ mod text;
 mod windows;
 
 pub use call_laws::{
-    answers_are_written, calls_are_written, windows_follow, windows_move, written_is_carried,
+    answers_are_written, calls_are_written, data_is_spent, windows_follow, windows_move,
+    written_is_carried,
 };
 pub use conn::Conn;
 pub use kn_h2_state::{BeginRefusal, Events, H2Event, QueueRefusal, Role};

@@ -21,7 +21,7 @@ use Rattle.kn_h2_state.specs.Rules.{is_client}
 use Rattle.kn_h2_state.specs.Moves.{more_headers, headers_frames, can_send, is_due, may, made, after_move, target, end_frames}
 use Rattle.kn_h2_state.specs.Calls.{queue_in, queue_of}
 use Rattle.kn_h2_state.specs.Holding.{Rising}
-use Rattle.kn_h2_state.specs.Wire.{frame_text, texts_in, grants_in, data_lengths_in, ends_in, WireSplits, frame, spellings, ReadsBack, WrittenIsRead, more_list, head_list, payloads, HeadIsWritten, end_list, made_frames, move_frames, moved_text, MovesAreWritten}
+use Rattle.kn_h2_state.specs.Wire.{frame_text, texts_in, grants_in, data_length, data_lengths_in, any_data_length, all_data_in, ends_in, WireSplits, AllDataSplits, NoneOfEachIsNone, frame, spellings, ReadsBack, WrittenIsRead, more_list, head_list, payloads, HeadIsWritten, end_list, made_frames, move_frames, moved_text, MovesAreWritten}
 use Rattle.kn_h2_state.proofs.PieceLaws.{frames-append, bytes-append}
 
 -- ---- sums over frames
@@ -55,6 +55,38 @@ wire_splits n r xs ys =
       taken = ap (data_lengths_in n) e ∙ lengths-append n (frames_in r xs) (frames_in (after_bytes r xs) ys);
       ends = ap (ends_in n) e ∙ ends-append n (frames_in r xs) (frames_in (after_bytes r xs) ys);
     }
+
+all_data-append : (fs gs : List Frame) → all_data_in (fs ++ gs) ≡ all_data_in fs + all_data_in gs
+unfolding all_data_in
+all_data-append [] gs = omega arith
+all_data-append (f ∷ fs) gs = let e : all_data_in (fs ++ gs) ≡ all_data_in fs + all_data_in gs = all_data-append fs gs in omega arith
+
+pub all_data_splits : AllDataSplits
+all_data_splits r xs ys = ap (λ (fs : List Frame). all_data_in fs) (frames-append r xs ys) ∙ all_data-append (frames_in r xs) (frames_in (after_bytes r xs) ys)
+
+with_itself : (n : ℕ) → eqb n n ≡ true
+with_itself n = grind arith
+
+-- what a frame brings to its own stream is all that it brings
+own_data : (f : Frame) → data_length f.stream f ≡ any_data_length f
+unfolding data_length any_data_length
+own_data f = by_test (f.kind == 0)
+  where
+    by_test : (b : Bool) → (if b && (f.stream == f.stream) then length f.payload else 0) ≡ (if b then length f.payload else 0)
+    by_test true = ap (λ (c : Bool). if c then length f.payload else 0) (with_itself f.stream)
+    by_test false = refl
+
+pub none_of_each_is_none : NoneOfEachIsNone
+unfolding data_lengths_in all_data_in
+none_of_each_is_none [] each = refl
+none_of_each_is_none (f ∷ fs) each =
+    let first : data_length f.stream f + data_lengths_in f.stream fs ≡ 0 = each f.stream in
+    let own : data_length f.stream f ≡ any_data_length f = own_data f in
+    let rest : all_data_in fs ≡ 0 = none_of_each_is_none fs (λ n. later n (each n)) in
+    omega arith
+  where
+    later : (n : ℕ) → data_length n f + data_lengths_in n fs ≡ 0 → data_lengths_in n fs ≡ 0
+    later n sum = omega arith
 
 -- ---- frames are read back
 

@@ -56,6 +56,17 @@ data_lengths_in n (f ∷ fs) = data_length n f + data_lengths_in n fs
 abbrev pub wire_data : ℕ → Reading → List ℕ → ℕ
 wire_data n r bytes = data_lengths_in n (frames_in r bytes)
 
+-- what a frame takes of the window of the connection: DATA with its padding, on whichever stream
+unfoldable pub any_data_length : Frame → ℕ
+any_data_length f = if f.kind == 0 then length f.payload else 0
+
+unfoldable pub all_data_in : List Frame → ℕ
+all_data_in [] = 0
+all_data_in (f ∷ fs) = any_data_length f + all_data_in fs
+
+abbrev pub wire_all_data : Reading → List ℕ → ℕ
+wire_all_data r bytes = all_data_in (frames_in r bytes)
+
 -- a frame ends the sender's half of a stream: END_STREAM, or RST_STREAM
 unfoldable pub is_end : ℕ → Frame → Bool
 is_end n f = (f.stream == n) && ((nat_le f.kind 1 && has f 1) || (f.kind == 3))
@@ -73,6 +84,14 @@ pub record WireSplits (n : ℕ) (r : Reading) (xs ys : List ℕ) : Type 0 where
   pub grants : wire_grants n r (xs ++ ys) ≡ wire_grants n r xs + wire_grants n (after_bytes r xs) ys
   pub taken : wire_data n r (xs ++ ys) ≡ wire_data n r xs + wire_data n (after_bytes r xs) ys
   pub ends : wire_ends n r (xs ++ ys) ≡ wire_ends n r xs + wire_ends n (after_bytes r xs) ys
+
+-- and so of the DATA of all streams together
+abbrev pub AllDataSplits : Type 0
+AllDataSplits = (r : Reading) (xs ys : List ℕ) → wire_all_data r (xs ++ ys) ≡ wire_all_data r xs + wire_all_data (after_bytes r xs) ys
+
+-- frames that bring no stream DATA bring none
+abbrev pub NoneOfEachIsNone : Type 0
+NoneOfEachIsNone = (fs : List Frame) → ((n : ℕ) → data_lengths_in n fs ≡ 0) → all_data_in fs ≡ 0
 
 -- ---- what is written are frames
 

@@ -2,7 +2,7 @@ ghost use Rattle.std.specs.Prelude.{◌≡◌, ℕ, List, None};
 ghost use Rattle.kn_frames.specs.Readers.{Reading};
 ghost use Rattle.kn_h2_state.specs.declared.state.State.{State};
 ghost use Rattle.kn_h2_state.specs.Telling.{FramesTell, CallsTell, MovesAreQuiet, TextIsTold};
-ghost use Rattle.kn_h2_state.specs.Wire.{WireSplits, WrittenIsRead, HeadIsWritten, MovesAreWritten, FramesAreAnswered};
+ghost use Rattle.kn_h2_state.specs.Wire.{WireSplits, AllDataSplits, NoneOfEachIsNone, WrittenIsRead, HeadIsWritten, MovesAreWritten, FramesAreAnswered};
 ghost use Rattle.kn_h2_state.specs.Laws.{AnyPieces, FailsFirst, FramesLeaveOthers, MovesLeaveOthers, CallsLeaveOthers, BeginsLeaveOthers, TextGrows};
 ghost use Rattle.kn_h2_state.specs.Hearing.{FramesAreHeard, ClosedTextStays, ClosedStaysClosed};
 ghost use Rattle.kn_h2_state.specs.InStep.{NextIsRead};
@@ -43,6 +43,12 @@ pub fn text_grows()
 /// of joined bytes each is that of the first part and that of the second, from any reader.
 pub fn wire_splits()
     ensures { (n : ℕ) (r : Reading) (xs ys : List ℕ) → WireSplits n r xs ys }
+{}
+
+/// So with the DATA of all streams together, of which frames have none where they bring no stream DATA.
+pub fn all_data_splits()
+    ensures sum { AllDataSplits }
+    ensures none { NoneOfEachIsNone }
 {}
 
 /// Frames within the limits are read back as they were written, one behind the other.

@@ -41,7 +41,7 @@ pub use failing::{fail, reply, reply_frame, reply_reset};
 pub use head_decoder::{HeadDecoder, HeadError};
 pub use judgement::Judgement;
 pub use laws::{
-    answered_is_kept, any_pieces, closed_text_stays, ends_are_told, fails_first,
+    all_data_splits, answered_is_kept, any_pieces, closed_text_stays, ends_are_told, fails_first,
     frames_are_answered, frames_are_heard, heads_are_written, more_is_heard, moves_are_written,
     next_block_is_read, nothing_waits_for_its_answer, opened_is_above, others_are_left,
     own_facts_stay, own_half_stays, own_steps_are_heard, settings_at_once,
