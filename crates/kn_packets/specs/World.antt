@@ -1,5 +1,6 @@
 -- The packet world: the three ends, and between them lists of packets that were queued and not yet handled. What an end holds is the state of its
--- own definition. What is noted besides is noted by numbers: of links, streams, dials and apps. A stream's number is that of its front at the server.
+-- own definition. What is noted besides is noted by numbers: of links, streams, dials and apps. A stream's number is that of its front at the server,
+-- once that has come up.
 use Rattle.std.specs.Prelude.{ℕ, ◌==◌, Bool, true, false, not, List, Option, None, Some, is_some, pos, if◌then◌else◌}
 use Rattle.kn_packet.specs.declared.packet.Packet.{Packet}
 use Rattle.kn_tables.specs.Lists.{first_where}

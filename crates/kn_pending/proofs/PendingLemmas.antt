@@ -12,7 +12,7 @@ use Rattle.kn_h2_state.specs.Streams.{stream_at, change, on_open}
 use Rattle.kn_h2_state.specs.declared.moves.Move.{Move}
 use Rattle.kn_h2_state.specs.Moves.{Makes}
 use Rattle.kn_h2_state.specs.Calls.{text_of, text_in, queue_of, queue_in, refusal, refused_where, takes_more, with_taken, with_queued, after_take, after_queue, after_took}
-use Rattle.kn_h2_state.specs.Hearing.{FramesAreHeard}
+use Rattle.kn_h2_state.specs.Hearing.{ClosedStaysClosed, FramesAreHeard}
 use Rattle.kn_h2_state.specs.Holding.{Holds}
 use Rattle.kn_h2_state.specs.Wire.{Hears, wire_text, frame_text, texts_in, IsBetweenFrames, spellings, WireSplits}
 use Rattle.kn_h2_state.proofs.PieceLaws.{bytes-append}
@@ -20,7 +20,7 @@ use Rattle.kn_h2_state.proofs.SeenLemmas.{at_changed, climbs, climbs_change, tex
 use Rattle.kn_h2.proofs.FoundLemmas.{found_open}
 use Rattle.kn_h2.specs.Sending.{sent, InOrder}
 use Rattle.kn_h2.specs.Written.{FillsAreWritten, FillsBring, moves_list}
-use Rattle.kn_pending.specs.Pending.{Way, wire, unhandled, unwritten, IsWhole, delivered, entered, with_from, Delivers, DeliversHeard, LeavesFront, Enters, Reads, Handles, Queues, KeepsBehind, Admits, Writes, WritesNothing, Between}
+use Rattle.kn_pending.specs.Pending.{Admits, Between, ClosedStays, Delivers, DeliversHeard, Enters, Handles, IsWhole, KeepsBehind, LeavesFront, Queues, Reads, Way, Writes, WritesNothing, delivered, entered, unhandled, unwritten, wire, with_from}
 
 abbrev pub Split : Type 0
 Split = (n : ℕ) (r : Reading) (xs ys : List ℕ) → WireSplits n r xs ys
@@ -120,6 +120,10 @@ pub delivers : Split → FramesAreHeard → Delivers
 delivers split heard n kept behind piece rest w cut holds on opened =
     let goes = piece_goes_on w.to piece on in
     delivers_heard split n kept behind piece rest w cut on (heard n w.to.state (frames_in w.to.cutter piece) holds (ap (λ (s : State). s.failed) (sym goes.state) ∙ on) opened).each
+
+pub closed_stays : ClosedStaysClosed → ClosedStays
+closed_stays closed n kept piece rest w holds there on half none =
+    ap (λ (l : List ℕ). kept ++ l) (ap (λ (s : State). text_of s n) (piece_goes_on w.to piece on).state ∙ (closed n w.to.state (frames_in w.to.cutter piece) holds there half).text none)
 
 -- ---- what goes on its way
 

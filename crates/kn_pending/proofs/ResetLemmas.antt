@@ -1,12 +1,15 @@
 -- A client whose response is whole is told to send no more.
-use Rattle.std.proofs.Common.{◌≡◌, ℕ, Bool, true, false, not, ◌&&◌, Some, refl, sym, ap, ◌∙◌, subst, if◌then◌else◌}
+use Rattle.std.proofs.Common.{◌≡◌, ℕ, Bool, true, false, not, ◌&&◌, None, Some, refl, sym, ap, ◌∙◌, subst, if◌then◌else◌}
 use Rattle.std.specs.Bool.{◌==◌}
 use Rattle.std.proofs.lemmas.Bool.{eqb-true}
+use Rattle.kn_frames.specs.declared.frame.Frame.{Frame}
 use Rattle.kn_h2_state.specs.declared.stream.Stream.{Stream}
 use Rattle.kn_h2_state.specs.declared.state.State.{State}
 use Rattle.kn_h2_state.specs.Streams.{stream_at, change, is_open, passes, shut}
 use Rattle.kn_h2_state.specs.Payloads.{number_at}
-use Rattle.kn_h2_state.specs.Rules.{is_client}
+use Rattle.kn_h2_state.specs.Hearing.{is_peer_open}
+use Rattle.kn_h2_state.specs.Holding.{Holds}
+use Rattle.kn_h2_state.specs.Rules.{is_client, verdict}
 use Rattle.kn_h2_state.specs.Effects.{cut_off, effect, on_stream, reset_of}
 use Rattle.kn_h2_state.specs.Feeding.{after_frame, judged}
 use Rattle.kn_h2_state.specs.Calls.{text_of}
@@ -23,9 +26,10 @@ closed_half : (a b : Bool) → a ≡ true → (a && b) ≡ false → b ≡ false
 closed_half true b e h = h
 closed_half false b e h = absurd cc
 
-pub gentle_reset : GentleReset
+gentle_at : (n : ℕ) (s : State) (f : Frame) → Holds s → s.failed ≡ None → verdict s f ≡ None → is_client s.role ≡ true → (f.kind == 3) ≡ true → (number_at f.payload 0 == 0) ≡ true
+    → f.stream ≡ n → is_peer_open n s ≡ false → text_of (after_frame s f) n ≡ text_of s n
 unfolding reset_of
-gentle_reset n s f holds on v client kind code here half =
+gentle_at n s f holds on v client kind code here half =
     let judged_so : after_frame s f ≡ effect (record s { began = true }) f = after_frame-judged s f on ∙ ap (λ o. judged s f o) v in
     ap (λ (t : State). text_of t n) judged_so ∙ text_other f n (record s { began = true }) (rises 0 s.opened s.streams holds.rising) (no_other f.kind kind) (λ z st at open_. gentle st at open_)
   where
@@ -46,3 +50,15 @@ gentle_reset n s f holds on v client kind code here half =
         by true true true x y z = absurd cc
         by true false c x y z = absurd cc
         by false b c x y z = absurd cc
+
+first_of_both : (a b : Bool) → (a && b) ≡ true → a ≡ true
+first_of_both true b h = refl
+first_of_both false b h = absurd cc
+
+second_of_both : (a b : Bool) → (a && b) ≡ true → b ≡ true
+second_of_both true b h = h
+second_of_both false b h = absurd cc
+
+pub gentle_reset : GentleReset
+gentle_reset n s f holds on v client reset code half =
+    gentle_at n s f holds on v client (first_of_both (f.kind == 3) (f.stream == n) reset) code (eqb-true f.stream n (second_of_both (f.kind == 3) (f.stream == n) reset)) half

@@ -1,6 +1,7 @@
 -- What is on its way on a stream, from one end of a connection to the other: what came and was not handled, what is on the wire, and what waits to be
 -- written.
-use Rattle.std.specs.Prelude.{◌≡◌, ◌==◌, ℕ, true, false, List, [], ◌++◌, take, None, Some}
+use Rattle.std.specs.Prelude.{◌≡◌, ◌≤◌, ◌==◌, ℕ, true, false, List, [], ◌++◌, take, None, Some}
+use Rattle.std.specs.List.{AllByRecursion}
 use Rattle.kn_frames.specs.declared.frame.Frame.{Frame}
 use Rattle.kn_frames.specs.Readers.{after_bytes, frames_in}
 use Rattle.kn_h2_state.specs.declared.state.State.{State}
@@ -11,7 +12,7 @@ use Rattle.kn_h2_state.specs.declared.stream.Stream.{Stream}
 use Rattle.kn_h2_state.specs.Streams.{stream_at}
 use Rattle.kn_h2_state.specs.Moves.{Reaches}
 use Rattle.kn_h2_state.specs.Calls.{text_of, queue_of, refusal, takes_more, after_take, after_queue, after_took}
-use Rattle.kn_h2_state.specs.Hearing.{StaysOpen, is_peer_open}
+use Rattle.kn_h2_state.specs.Hearing.{StaysOpen, is_peer_open, is_reset_of}
 use Rattle.kn_h2_state.specs.Holding.{Holds}
 use Rattle.kn_h2_state.specs.Wire.{Hears, wire_text, IsBetweenFrames, spellings}
 use Rattle.kn_h2.specs.Written.{Brings}
@@ -73,16 +74,22 @@ DeliversHeard = (n : ℕ) (kept behind piece rest : List ℕ) (w : Way) → w.pi
     → Hears n w.to.state (frames_in w.to.cutter piece)
     → pending n kept (delivered piece rest w) behind ≡ pending n kept w behind
 
--- a client whose response is whole is told to send no more: the text stays until it is taken (RFC 9113, section 8.1)
+-- a client whose response is whole is told to send no more, by a reset with no error: the text stays until it is taken (RFC 9113, section 8.1)
 abbrev pub GentleReset : Type 0
-GentleReset = (n : ℕ) (s : State) (f : Frame) → Holds s → s.failed ≡ None → verdict s f ≡ None → is_client s.role ≡ true → (f.kind == 3) ≡ true → (number_at f.payload 0 == 0) ≡ true
-    → f.stream ≡ n → is_peer_open n s ≡ false → text_of (after_frame s f) n ≡ text_of s n
+GentleReset = (n : ℕ) (s : State) (f : Frame) → Holds s → s.failed ≡ None → verdict s f ≡ None → is_client s.role ≡ true → is_reset_of n f ≡ true → (number_at f.payload 0 == 0) ≡ true
+    → is_peer_open n s ≡ false → text_of (after_frame s f) n ≡ text_of s n
 
--- nor does what goes on its way
+-- once the stream's half is closed, what came of it stays as it was, whatever else comes but a reset of the stream
+abbrev pub ClosedStays : Type 0
+ClosedStays = (n : ℕ) (kept piece rest : List ℕ) (w : Way) → Holds w.to.state → n ≤ w.to.state.opened → (after_piece w.to piece).state.failed ≡ None → is_peer_open n w.to.state ≡ false
+    → AllByRecursion (λ f. is_reset_of n f ≡ false) (frames_in w.to.cutter piece)
+    → unhandled n kept (delivered piece rest w) ≡ unhandled n kept w
+
+-- what goes on its way leaves what is pending as it was
 abbrev pub Enters : Type 0
 Enters = (n count : ℕ) (kept behind : List ℕ) (w : Way) → pending n kept (entered count w) behind ≡ pending n kept w behind
 
--- nor text that is taken to the message under way
+-- so does text that is taken to the message under way
 abbrev pub Reads : Type 0
 Reads = (n count : ℕ) (kept behind : List ℕ) (w : Way) → Holds w.to.state
     → pending n (kept ++ take count (text_of w.to.state n)) (with_to (after_take n count) w) behind ≡ pending n kept w behind

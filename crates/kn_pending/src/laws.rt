@@ -1,5 +1,5 @@
 ghost use Rattle.kn_pending.specs.Packets.{AreRead, CutsLeaveFronts, NoneIsBad, NothingLeft, QueuedLast, TakenFirst};
-ghost use Rattle.kn_pending.specs.Pending.{Admits, Between, Delivers, DeliversHeard, Enters, GentleReset, Handles, KeepsBehind, LeavesFront, Queues, QueueStays, Reads, Writes, WritesNothing};
+ghost use Rattle.kn_pending.specs.Pending.{Admits, Between, ClosedStays, Delivers, DeliversHeard, Enters, GentleReset, Handles, KeepsBehind, LeavesFront, Queues, QueueStays, Reads, Writes, WritesNothing};
 ghost use Rattle.kn_pending.specs.Standings.{DropsLast, HandlesFirst, LosesSome, QueuesLast};
 
 /// What each step of two ends does to what is pending on a stream: bytes go from its front as they are handled, and come to its end as
@@ -8,6 +8,7 @@ pub fn pending_moves()
     ensures delivers { Delivers }
     ensures heard { DeliversHeard }
     ensures gentle { GentleReset }
+    ensures closed { ClosedStays }
     ensures enters { Enters }
     ensures reads { Reads }
     ensures handles { Handles }
@@ -24,6 +25,7 @@ pub fn pending_moves()
     kn_h2::written_is_carried();
     kn_h2::sending_laws();
     kn_h2_state::frames_are_heard();
+    kn_h2_state::closed_text_stays();
     kn_h2_state::wire_splits();
 }
 
