@@ -46,6 +46,7 @@ new_node server carrier stream = record {
   by_id = none;
   dials = [];
   losing = false;
+  answer = None;
   handled = 0;
   asked = 0;
   gone = 0;

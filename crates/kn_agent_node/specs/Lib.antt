@@ -3,3 +3,4 @@ pub mod Nodes
 pub mod Steps
 pub mod Calls
 pub mod Answers
+pub mod Announced

@@ -102,7 +102,7 @@ with_events events node = on_carrier (events_then events) node
 
 unfoldable pub heard : H2Event → Node → Node
 heard (Opened s fields) node = node
-heard (Head s fields) node = node
+heard (Head s fields) node = record node { answer = Some fields }
 heard (Text s) node = on_carrier (after_read s) node
 heard (Ended s) node = on_carrier (on_inlet s with_end) node
 heard (Reset s code) node = on_carrier (on_inlet s with_reset) node

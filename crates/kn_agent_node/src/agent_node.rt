@@ -1,14 +1,16 @@
 ghost use Rattle.std.specs.Prelude.{◌≡◌, ◌<◌, ◌≤◌, ◌==◌, ℕ, [], ◌∷◌, ◌++◌, true, false, nat_eq, length, OnOk, IfOk, MatchOption};
 ghost use Rattle.std.specs.List.{list_any};
+ghost use Rattle.std.specs.Option.{option_map};
 ghost use Rattle.kn_agent_node.specs.Calls as call;
 ghost use Rattle.kn_agent_node.specs.Calls.{Bytes, Took, Ended, Lost, Begins, NotBegun, Dialled, Drains, Handling};
 ghost use Rattle.kn_agent_node.specs.Answers as answer;
+ghost use Rattle.kn_agent_node.specs.Announced as announced_spec;
 
 use crate::node::Node;
 use crate::settling::settle;
 use crate::starting::started;
 use crate::stirring::{enter, enter_at};
-use crate::{answers, calls, handing};
+use crate::{announced, answers, calls, handing};
 use kn_edge_core::AgentCore;
 use kn_io::{NoMemory, Text};
 use std::alloc::Global;
@@ -203,6 +205,20 @@ impl AgentNode {
         ensures { result ≡ answer.has_lost_server self.now }
     {
         answers::server_lost(&self.node)
+    }
+
+    /// The id that the server says it has, once the head of its answer came. It is empty where the server says none.
+    pub fn server_id(&self) -> Option<&str>
+        ensures { option_map (λ text. text.now) result ≡ announced_spec.server_id_in self.now.answer }
+    {
+        announced::server_id(&self.node)
+    }
+
+    /// How many servers there are, as the server says, from 1 to 100. It is 1 where the server says no such number.
+    pub fn server_count(&self) -> u32
+        ensures { result ≡ announced_spec.server_count_in self.now.answer }
+    {
+        announced::server_count(&self.node)
     }
 
     /// How many packets were handled.

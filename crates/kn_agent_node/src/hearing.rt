@@ -16,7 +16,10 @@ pub fn heard(alloc: Global, node: &mut Node, event: H2Event) -> Result<(), NoMem
 {
     match event {
         H2Event::Opened { .. } => Ok(()),
-        H2Event::Head { .. } => Ok(()),
+        H2Event::Head { stream: _, headers } => {
+            node.answer = Some(headers);
+            Ok(())
+        }
         H2Event::Text { stream } => read(&mut node.carrier, stream),
         H2Event::Ended { stream } => {
             note_end(&mut node.carrier, stream);

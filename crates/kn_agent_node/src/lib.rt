@@ -2,6 +2,7 @@
 #![tactic(auto)]
 
 mod agent_node;
+mod announced;
 mod answers;
 mod arrival;
 mod calls;

@@ -3,6 +3,7 @@ use crate::requests::Requests;
 use crate::side::Side;
 use kn_edge_core::AgentCore;
 use kn_ends::{Carrier, PacketQueue};
+use kn_hpack::Headers;
 use kn_rising::{Rising, Stirred};
 
 /// All that the agent node holds.
@@ -29,6 +30,8 @@ pub struct Node {
     pub dials: Requests,
     /// The link is to be lost.
     pub losing: bool,
+    /// The head of the server's answer, once it came.
+    pub answer: Option<Headers>,
     /// How many packets were handled.
     pub handled: u64,
     /// How many dial requests were handled.

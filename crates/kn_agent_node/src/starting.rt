@@ -54,6 +54,7 @@ fn new_node(alloc: Global, server: u64, carrier: Carrier, stream: u32) -> Node
         by_id: Rising::new(alloc),
         dials: Requests::new(alloc),
         losing: false,
+        answer: None,
         handled: 0,
         asked: 0,
         gone: 0,
