@@ -1,5 +1,5 @@
 -- How long a header block of an encoder is.
-use Rattle.std.proofs.Common.{◌≡◌, ℕ, zero, suc, ◌+◌, ◌-◌, ◌*◌, ◌/◌, ◌%◌, ◌≤◌, Bool, true, false, nat_lt, List, [], ◌∷◌, ◌++◌, length, length-append, Option, Some, None, arith, if◌then◌else◌}
+use Rattle.std.proofs.Common.{ℕ, zero, suc, ◌+◌, ◌-◌, ◌*◌, ◌/◌, ◌%◌, ◌≤◌, Bool, true, false, nat_lt, List, [], ◌∷◌, ◌++◌, length, length-append, Option, Some, None, arith, if◌then◌else◌}
 use Rattle.std.specs.List.{flat_map}
 use Rattle.kn_hpack.specs.Fields.{Field, size, total}
 use Rattle.kn_hpack.specs.StaticTable.{static_table, place_in}
