@@ -2,6 +2,7 @@
 // stream says what it is.
 #![tactic(auto)]
 
+mod body;
 mod call;
 mod fault;
 mod framing;

@@ -2,10 +2,10 @@ ghost use Rattle.std.specs.Prelude.{◌≡◌, ◌==◌, ◌≤◌, ◌||◌, []
 ghost use Rattle.kn_grpc.specs.Fronts.{front_seen};
 ghost use Rattle.kn_grpc.specs.Readers.{Whole, first_message, message_in, start, popped, IsFed};
 
+use crate::body::Body;
 use crate::head::Head;
 use crate::state::{self, State};
 use crate::{Front, MessageError};
-use kn_io::Blob;
 use std::alloc::Global;
 use std::marker::Model;
 
@@ -36,7 +36,7 @@ impl Messages {
         Messages {
             state: State {
                 head: Head::new(),
-                body: Blob::new(alloc),
+                body: Body::new(alloc),
                 offset: 0,
             },
         }

@@ -3,16 +3,17 @@ ghost use Rattle.kn_grpc.specs.Readers.{Whole, first_message, message_in, taken,
 ghost use Rattle.kn_grpc.specs.Fronts.{front_seen};
 ghost use Rattle.kn_grpc.specs.Stored.{seen, is_sound};
 
+use crate::body::Body;
 use crate::head::{self, Head};
 use crate::{Front, MessageError, MessageFault};
-use kn_io::{Blob, NoMemory};
+use kn_io::NoMemory;
 use std::alloc::Global;
 
 /// What a reader holds: the head of a message, and what came behind it. The room for that grows with it.
 #[derive(Drop)]
 pub struct State {
     pub head: Head,
-    pub body: Blob,
+    pub body: Body,
     /// How many bytes came before these. It stays at 2^64 - 1.
     pub offset: u64,
 }
@@ -178,6 +179,6 @@ pub fn clear(state: &mut State, alloc: Global)
 {
     let taken = 5 + state.body.len() as u64;
     state.head.cut(0);
-    state.body = Blob::new(alloc);
+    state.body.clear(alloc);
     state.offset = state.offset.saturating_add(taken);
 }

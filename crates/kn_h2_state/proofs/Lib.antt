@@ -24,3 +24,4 @@ pub mod OwnFactLaws
 pub mod OwnLaws
 pub mod WaitLaws
 pub mod BroughtLaws
+pub mod BlockLengths

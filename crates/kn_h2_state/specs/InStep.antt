@@ -1,6 +1,6 @@
 -- The header blocks of one encoder, and the decoder that reads them in their order.
-use Rattle.std.specs.Prelude.{◌≡◌, Bool, true, false, List, [], Ok}
-use Rattle.kn_hpack.specs.Fields.{Field, Table, table_of}
+use Rattle.std.specs.Prelude.{◌≡◌, ◌+◌, ◌≤◌, Bool, true, false, List, [], length, Ok}
+use Rattle.kn_hpack.specs.Fields.{Field, Table, table_of, total}
 use Rattle.kn_hpack.specs.Blocks.{progress, read_block}
 use Rattle.kn_hpack.specs.Encoding.{block_of}
 use Rattle.kn_hpack.specs.RoundTrip.{IsSmallList}
@@ -17,3 +17,7 @@ IsInStep true t = t ≡ no_table
 -- It reads the encoder's next block as the list that this was made of, and is then in step with it.
 abbrev pub NextIsRead : Type 0
 NextIsRead = (wrote : Bool) (t : Table) (fields : List Field) → IsSmallList fields → IsInStep wrote t → read_block t (block_of wrote fields) ≡ Ok (progress no_table fields)
+
+-- An encoder's block is at most one byte longer than what its list counts.
+abbrev pub OwnBlocksAreShort : Type 0
+OwnBlocksAreShort = (wrote : Bool) (fields : List Field) → length (block_of wrote fields) ≤ 1 + total fields

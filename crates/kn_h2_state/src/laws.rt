@@ -5,7 +5,7 @@ ghost use Rattle.kn_h2_state.specs.Telling.{FramesTell, CallsTell, MovesAreQuiet
 ghost use Rattle.kn_h2_state.specs.Wire.{WireSplits, AllDataSplits, NoneOfEachIsNone, WrittenIsRead, HeadIsWritten, MovesAreWritten, FramesAreAnswered};
 ghost use Rattle.kn_h2_state.specs.Laws.{AnyPieces, FailsFirst, FramesLeaveOthers, MovesLeaveOthers, CallsLeaveOthers, BeginsLeaveOthers, TextGrows};
 ghost use Rattle.kn_h2_state.specs.Hearing.{FramesAreHeard, ClosedTextStays, ClosedStaysClosed};
-ghost use Rattle.kn_h2_state.specs.InStep.{NextIsRead};
+ghost use Rattle.kn_h2_state.specs.InStep.{NextIsRead, OwnBlocksAreShort};
 ghost use Rattle.kn_h2_state.specs.Preorder.{MoreIsHeard, FramesKeepMore, MoreIsAccepted, OwnStepsAreHeard, HearsMoreInTurn, OwnFactsBegin, OwnFactsAreKept};
 ghost use Rattle.kn_h2_state.specs.Own.{FramesLeaveOwn, PiecesLeaveOwn, OverStaysOver};
 ghost use Rattle.kn_h2_state.specs.Waiting.{WaitsForAnswerFirst, WaitsForAnswerStays, PiecesWaitForAnswer};
@@ -121,6 +121,12 @@ pub fn next_block_is_read()
     kn_hpack::round_trip_laws();
     kn_hpack::block_laws();
 }
+
+/// A header block of an own encoder is at most one byte longer than what its list counts: of a list within the limit of
+/// 16,384 bytes at most 16,385, where a reader takes 32,768.
+pub fn own_blocks_are_short()
+    ensures { OwnBlocksAreShort }
+{}
 
 /// Of two states one of which hears at least as much: a frame that breaks no rule in the other breaks none in
 /// this one, which hears at least as much after it too; and so through a list of frames.

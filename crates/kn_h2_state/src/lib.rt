@@ -44,7 +44,7 @@ pub use laws::{
     all_data_splits, answered_is_kept, any_pieces, closed_text_stays, ends_are_told, fails_first,
     frames_are_answered, frames_are_heard, heads_are_written, more_is_heard, moves_are_written,
     next_block_is_read, nothing_waits_for_its_answer, opened_is_above, others_are_left,
-    own_facts_stay, own_half_stays, own_steps_are_heard, settings_at_once,
+    own_blocks_are_short, own_facts_stay, own_half_stays, own_steps_are_heard, settings_at_once,
     text_comes_with_its_event, text_grows, text_is_told, wire_splits, written_is_read,
 };
 pub use limits::{
