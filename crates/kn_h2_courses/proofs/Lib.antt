@@ -1,3 +1,5 @@
 pub mod ByteLemmas
 pub mod LifeLemmas
 pub mod WindowLaws
+pub mod StreamSteps
+pub mod QueueLaws

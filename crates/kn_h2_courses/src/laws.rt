@@ -1,7 +1,14 @@
+ghost use Rattle.kn_h2_courses.specs.Queues.{QueuedIsSent};
 ghost use Rattle.kn_h2_courses.specs.Windows.{WindowsAreSums};
 
 /// While a connection has not failed, its sending window is 65,535, more by all increments that came, less by all
 /// DATA that was sent; and its receiving window is 6,553,500, more by all that was granted, less by all DATA that came.
 pub fn connection_windows_are_sums()
     ensures { WindowsAreSums }
+{}
+
+/// What was sent on a stream, followed by what waits, is the front of what was queued on it, and all of that until
+/// this end's half is given up by a reset, from here or from there.
+pub fn queued_is_sent()
+    ensures { QueuedIsSent }
 {}
