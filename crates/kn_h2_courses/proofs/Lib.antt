@@ -3,3 +3,4 @@ pub mod LifeLemmas
 pub mod WindowLaws
 pub mod StreamSteps
 pub mod QueueLaws
+pub mod TextLaws

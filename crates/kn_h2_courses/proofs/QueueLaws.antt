@@ -11,10 +11,9 @@ use Rattle.kn_h2_state.specs.declared.moves.Move.TheVariants.{GrantAll, Grant, S
 use Rattle.kn_h2_state.specs.declared.stream.Stream.{Stream}
 use Rattle.kn_h2_state.specs.declared.state.State.{State}
 use Rattle.kn_h2_state.specs.Streams.{stream_at, change, is_open, is_kept, shut, on_open}
-use Rattle.kn_h2_state.specs.Outgoing.{put}
 use Rattle.kn_h2_state.specs.Payloads.{reset_frame}
 use Rattle.kn_h2_state.specs.Rules.{is_client}
-use Rattle.kn_h2_state.specs.Effects.{fail, reply, on_stream, new_stream}
+use Rattle.kn_h2_state.specs.Effects.{reply, on_stream, new_stream}
 use Rattle.kn_h2_state.specs.Feeding.{Connection, after_piece}
 use Rattle.kn_h2_state.specs.Moves.{headers_frames, may, can_end, own_ended, made, after_move}
 use Rattle.kn_h2_state.specs.Calls.{fresh, fresh_state, takes_more, refusal, queue_refusal, queue_in, queue_of, next_number, with_taken, with_queued, with_finish, after_take, after_begin, after_queue, after_finish, after_answer, after_reset, after_took}
@@ -23,8 +22,8 @@ use Rattle.kn_h2_state.specs.Own.{OwnHalf, own_half}
 use Rattle.kn_h2_state.specs.Wire.{moved_text}
 use Rattle.kn_h2_state.proofs.OtherLaws.{reply_streams, calls_leave_others, begins_leave_others}
 use Rattle.kn_h2_state.proofs.OwnLaws.{borne_piece, pieces_leave_own}
-use Rattle.kn_h2_state.proofs.SeenLemmas.{KeepsNumber, at_changed}
-use Rattle.kn_h2_state.proofs.BorneLemmas.{rises, none_above, climbing, rises_change, at_change, at_tidied, at_push, Bears}
+use Rattle.kn_h2_state.proofs.SeenLemmas.{at_changed}
+use Rattle.kn_h2_state.proofs.BorneLemmas.{rises, climbing, rises_change, at_change, at_tidied, at_push, Bears}
 use Rattle.kn_h2.proofs.BeginLemmas.{next_above}
 use Rattle.kn_h2.proofs.CallBounds.{fits_of, fits_queue}
 use Rattle.kn_h2.proofs.FoundLemmas.{IsFound, found_open}
@@ -34,7 +33,7 @@ use Rattle.kn_h2.proofs.StreamLemmas.{all_at}
 use Rattle.kn_h2_courses.specs.Courses.{Act, Feeds, Tells, Takes, Begins, Answers, Queues, Finishes, Resets, Makes, Writes, MayDo, queued_by, ends_half, Course, begins, after_act}
 use Rattle.kn_h2_courses.specs.Queues.{own_in, QueuedIsSent}
 use Rattle.kn_h2_courses.proofs.LifeLemmas.{IsSound, IsCut, every_life}
-use Rattle.kn_h2_courses.proofs.StreamSteps.{opened_there, opened_piece, on_there, move_there, opened_move}
+use Rattle.kn_h2_courses.proofs.StreamSteps.{begun_opened, reset_opened, none_there, changed_all, reply_opened, opened_there, opened_piece, on_there, move_there, opened_move}
 
 -- ---- of one stream, over values
 
@@ -170,9 +169,6 @@ bears_empty c n low = record {
     shift old new true st q = q
     shift old new false st q = q
 
-none_there : (s : State) (n : ℕ) → Holds s → s.opened < n → stream_at s.streams n ≡ None
-none_there s n h above = none_above 0 s.opened n s.streams (rises 0 s.opened s.streams h.rising) above
-
 -- where this end's half has ended, nothing waits
 over_empty : (s : State) (n : ℕ) → Holds s → own_in (stream_at s.streams n) ≡ false → queue_of s n ≡ []
 over_empty s n h own = by_stream (stream_at s.streams n) refl own
@@ -222,10 +218,6 @@ piece_orders n c piece queued sent ended h bytes k = by_test (leb n c.state.open
 own_of_call : (needs : Stream → Bool) (s : State) (n : ℕ) → ((st : Stream) → needs st ≡ true → st.own_open ≡ true) → on_open s.streams n needs ≡ true → own_in (stream_at s.streams n) ≡ true
 own_of_call needs s n own e = let found = found_open s.streams n needs e in ap own_in found.1.found ∙ own found.0 found.1.passed
 
-begun_opened : (fields : List Field) (s : State) → (after_begin fields s).opened ≡ next_number s
-unfolding after_begin
-begun_opened fields s = refl
-
 begun_empty : (n : ℕ) (fields : List Field) (s : State) → Holds s → next_number s ≡ n → queue_of (after_begin fields s) n ≡ []
 unfolding after_begin
 begun_empty n fields s h same =
@@ -253,14 +245,6 @@ begin_orders n fields s queued sent ended h k = by_test (eqb (next_number s) n) 
         let same : stream_at t.streams n ≡ stream_at s.streams n = begins_leave_others s fields n apart in
         same_half n s.opened t.opened (own_in (stream_at s.streams n)) (own_in (stream_at t.streams n)) (queue_of s n) (queue_of t n) queued sent ended (omega (arith, begun_opened fields s, above))
         (ap own_in same) (ap queue_in same) k
-
-reply_opened : (frame : List ℕ) (s : State) → (reply frame s).opened ≡ s.opened
-unfolding reply fail
-reply_opened frame s = by_room _
-  where
-    by_room : (b : Bool) → (cond b (fail 11 s) (record s { out = put s.out true frame })).opened ≡ s.opened
-    by_room true = refl
-    by_room false = refl
 
 answer_orders : (n m : ℕ) (fields : List Field) (s : State) (queued sent : List ℕ) (ended : Bool) → Holds s → Orders n s queued sent ended → Orders n (after_answer m fields s) queued sent ended
 unfolding after_answer
@@ -339,25 +323,6 @@ queue_orders n m bytes s queued sent ended h ok k = by_test (eqb m n) refl
     by_test false e =
         subst (λ (q : List ℕ). Orders n t q sent ended) (sym (append-nil queued))
         (stream_same n s t queued sent ended (sym (queued_opened m bytes s)) ((calls_leave_others s m n h (eqb-false m n e)).queue bytes) k)
-
-reset_opened : (m code : ℕ) (s : State) → (after_reset m code s).opened ≡ s.opened
-unfolding after_reset
-reset_opened m code s = reply_opened (reset_frame m code) (on_stream m shut s)
-
-some_is : (a b : Stream) → Some a ≡ Some b → a ≡ b
-some_is a b p = cc
-
-changed_all : (P : Stream → Type 0) (ss : List Stream) (n : ℕ) (f : Stream → Stream) → KeepsNumber f → ((st : Stream) → P (f st)) → (st : Stream) → stream_at (change ss n f) n ≡ Some st → P st
-unfolding stream_at change
-changed_all P [] n f keeps all st e = absurd cc
-changed_all P (x ∷ ss) n f keeps all st e = by_test (eqb x.number n) refl (changed_all P ss n f keeps all st) e
-  where
-    by_test : (b : Bool) → eqb x.number n ≡ b → (stream_at (change ss n f) n ≡ Some st → P st) → stream_at (cond b (f x ∷ ss) (x ∷ change ss n f)) n ≡ Some st → P st
-    by_test true t rest h =
-        let same : cond (eqb (f x).number n) (Some (f x)) (stream_at ss n) ≡ Some (f x) = ap (λ (j : ℕ). cond (eqb j n) (Some (f x)) (stream_at ss n)) (keeps x) ∙ ap (λ (b : Bool). cond b (Some (f x)) (stream_at ss n)) t in
-        let is : f x ≡ st = some_is (f x) st (sym same ∙ h) in
-        subst P is (all x)
-    by_test false t rest h = rest (ap (λ (b : Bool). cond b (Some x) (stream_at (change ss n f) n)) (sym t) ∙ h)
 
 -- of a stream that was shut nothing waits
 abbrev Shut : Option Stream → Type 0

@@ -1,21 +1,25 @@
 -- What acts do to one stream.
-use Rattle.std.proofs.Common.{◌≡◌, ℕ, ◌≤◌, Bool, true, false, not, cond, leb, List, [], ◌∷◌, Option, Some, None, is_some, refl, sym, ◌∙◌, arith}
+use Rattle.std.proofs.Common.{◌≡◌, ℕ, ◌<◌, ◌≤◌, Bool, true, false, not, cond, eqb, leb, List, [], ◌∷◌, Option, Some, None, is_some, refl, sym, ap, ◌∙◌, subst, arith}
 use Rattle.std.specs.List.{AllByRecursion}
 use Rattle.std.proofs.lemmas.Bool.{leb-true, leb-false}
 use Rattle.kn_frames.specs.declared.frame.Frame.{Frame}
 use Rattle.kn_frames.specs.declared.fault.FrameFault.{FrameFault}
 use Rattle.kn_frames.specs.Frames.{IsWithinLimits}
 use Rattle.kn_frames.specs.Readers.{after_bytes, frames_in, fault_in}
+use Rattle.kn_hpack.specs.Fields.{Field}
 use Rattle.kn_hpack.specs.Strings.{IsBytes}
 use Rattle.kn_h2_state.specs.declared.moves.Move.{Move}
 use Rattle.kn_h2_state.specs.declared.moves.Move.TheVariants.{GrantAll, Grant, Send, End, Stop}
 use Rattle.kn_h2_state.specs.declared.stream.Stream.{Stream}
 use Rattle.kn_h2_state.specs.declared.state.State.{State}
-use Rattle.kn_h2_state.specs.Streams.{stream_at, change, is_kept}
+use Rattle.kn_h2_state.specs.Outgoing.{put}
+use Rattle.kn_h2_state.specs.Streams.{stream_at, change, is_kept, shut}
+use Rattle.kn_h2_state.specs.Payloads.{reset_frame}
 use Rattle.kn_h2_state.specs.Rules.{is_client}
-use Rattle.kn_h2_state.specs.Effects.{fail, on_stream}
+use Rattle.kn_h2_state.specs.Effects.{fail, reply, on_stream}
 use Rattle.kn_h2_state.specs.Feeding.{Connection, frame_code, after_frame, after_frames, after_fault, after_piece}
 use Rattle.kn_h2_state.specs.Moves.{granted, sent_some, own_ended, stopped, made, target, after_move}
+use Rattle.kn_h2_state.specs.Calls.{next_number, after_begin, after_reset}
 use Rattle.kn_h2_state.specs.Holding.{Holds}
 use Rattle.kn_h2_state.proofs.SeenLemmas.{KeepsNumber}
 use Rattle.kn_h2_state.proofs.OpenLaws.{frames_open_above}
@@ -68,7 +72,25 @@ opened_piece c piece h bytes = by_failed (is_some c.state.failed)
     by_failed true = omega arith
     by_failed false = let up = opened_frames c.state (frames_in c.cutter piece) (frames_fit c.cutter piece h.bytes bytes) h.holds in let same = opened_fault s o in omega (arith, up, same)
 
+pub none_there : (s : State) (n : ℕ) → Holds s → s.opened < n → stream_at s.streams n ≡ None
+none_there s n h above = none_above 0 s.opened n s.streams (rises 0 s.opened s.streams h.rising) above
+
 -- ---- one stream changed
+
+some_is : (a b : Stream) → Some a ≡ Some b → a ≡ b
+some_is a b p = cc
+
+pub changed_all : (P : Stream → Type 0) (ss : List Stream) (n : ℕ) (f : Stream → Stream) → KeepsNumber f → ((st : Stream) → P (f st)) → (st : Stream) → stream_at (change ss n f) n ≡ Some st → P st
+unfolding stream_at change
+changed_all P [] n f keeps all st e = absurd cc
+changed_all P (x ∷ ss) n f keeps all st e = by_test (eqb x.number n) refl (changed_all P ss n f keeps all st) e
+  where
+    by_test : (b : Bool) → eqb x.number n ≡ b → (stream_at (change ss n f) n ≡ Some st → P st) → stream_at (cond b (f x ∷ ss) (x ∷ change ss n f)) n ≡ Some st → P st
+    by_test true t rest h =
+        let same : cond (eqb (f x).number n) (Some (f x)) (stream_at ss n) ≡ Some (f x) = ap (λ (j : ℕ). cond (eqb j n) (Some (f x)) (stream_at ss n)) (keeps x) ∙ ap (λ (b : Bool). cond b (Some (f x)) (stream_at ss n)) t in
+        let is : f x ≡ st = some_is (f x) st (sym same ∙ h) in
+        subst P is (all x)
+    by_test false t rest h = rest (ap (λ (b : Bool). cond b (Some x) (stream_at (change ss n f) n)) (sym t) ∙ h)
 
 pub on_there : (Q : Option Stream → Type 0) (s : State) (m n : ℕ) (f : Stream → Stream) → Holds s → KeepsNumber f → ((st : Stream) → is_kept st ≡ false → Q (Some st) → Q None)
     → ((st : Stream) → Q (Some st) → Q (Some (f st))) → Q (stream_at s.streams n) → Q (stream_at (on_stream m f s).streams n)
@@ -109,3 +131,19 @@ opened_move s move = by_move move (stream_at s.streams (target move))
     by_move (End k) (Some st) = refl
     by_move (Stop k) None = refl
     by_move (Stop k) (Some st) = refl
+
+pub reply_opened : (frame : List ℕ) (s : State) → (reply frame s).opened ≡ s.opened
+unfolding reply fail
+reply_opened frame s = by_room _
+  where
+    by_room : (b : Bool) → (cond b (fail 11 s) (record s { out = put s.out true frame })).opened ≡ s.opened
+    by_room true = refl
+    by_room false = refl
+
+pub begun_opened : (fields : List Field) (s : State) → (after_begin fields s).opened ≡ next_number s
+unfolding after_begin
+begun_opened fields s = refl
+
+pub reset_opened : (m code : ℕ) (s : State) → (after_reset m code s).opened ≡ s.opened
+unfolding after_reset
+reset_opened m code s = reply_opened (reset_frame m code) (on_stream m shut s)

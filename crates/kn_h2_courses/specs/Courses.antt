@@ -1,6 +1,7 @@
 -- What may be done with one end of a connection, one act after another, and what comes of it.
 use Rattle.std.specs.Prelude.{◌≡◌, ℕ, ◌+◌, ◌≤◌, ◌==◌, Bool, true, false, not, ◌&&◌, ◌||◌, List, [], ◌∷◌, ◌++◌, length, take, drop, None, if◌then◌else◌}
-use Rattle.kn_frames.specs.Readers.{Reading, start}
+use Rattle.kn_frames.specs.declared.frame.Frame.{Frame}
+use Rattle.kn_frames.specs.Readers.{Reading, start, frames_in}
 use Rattle.kn_hpack.specs.Fields.{Field}
 use Rattle.kn_hpack.specs.Strings.{IsBytes}
 use Rattle.kn_h2_state.specs.declared.role.Role.{Role}
@@ -10,10 +11,11 @@ use Rattle.kn_h2_state.specs.declared.moves.Move.TheVariants.{GrantAll, Grant, S
 use Rattle.kn_h2_state.specs.declared.state.State.{State}
 use Rattle.kn_h2_state.specs.Streams.{on_open}
 use Rattle.kn_h2_state.specs.Rules.{is_client}
-use Rattle.kn_h2_state.specs.Feeding.{Connection, after_piece}
+use Rattle.kn_h2_state.specs.Feeding.{Connection, after_frame, after_piece}
 use Rattle.kn_h2_state.specs.Moves.{may, after_move}
 use Rattle.kn_h2_state.specs.Calls.{fresh, text_of, begin_refusal, takes_more, refusal, queue_refusal, after_take, after_begin, after_queue, after_finish, after_answer, after_reset, after_took}
-use Rattle.kn_h2_state.specs.Wire.{moved_text}
+use Rattle.kn_h2_state.specs.Hearing.{is_peer_open}
+use Rattle.kn_h2_state.specs.Wire.{frame_text, moved_text}
 use Rattle.kn_h2.specs.Sending.{spent_by}
 use Rattle.kn_h2.specs.Written.{granted_by}
 
@@ -73,6 +75,15 @@ abbrev pub given_by : ℕ → State → Act → List ℕ
 given_by n s (Takes m count) = if m == n then take count (text_of s n) else []
 given_by n s _ = []
 
+-- of the frames, the text of DATA on the stream while the peer's half of it is open
+unfoldable pub heard_in : ℕ → State → List Frame → List ℕ
+heard_in n s [] = []
+heard_in n s (f ∷ fs) = (if is_peer_open n s then frame_text n f else []) ++ heard_in n (after_frame s f) fs
+
+abbrev pub heard_by : ℕ → Connection → Act → List ℕ
+heard_by n c (Feeds piece) = heard_in n c.state (frames_in c.cutter piece)
+heard_by n c _ = []
+
 abbrev pub queued_by : ℕ → Act → List ℕ
 queued_by n (Queues m bytes) = if m == n then bytes else []
 queued_by n _ = []
@@ -106,12 +117,13 @@ grants n s _ = 0
 
 -- ---- a life, in which one stream is looked at
 
--- The connection, and all bytes that were fed. Of the stream: the text that was given, what was queued on it, what was
--- sent of that, whether the end of this end's half was written, and what was granted. Of the connection: how many
--- bytes of DATA were sent, and what was granted.
+-- The connection, and all bytes that were fed. Of the stream: the text that came, and what was given of it; what was
+-- queued, and what was sent of it; whether the end of this end's half was written; and what was granted. Of the
+-- connection: how many bytes of DATA were sent, and what was granted.
 pub record Course : Type 0 where
   pub connection : Connection
   pub fed : List ℕ
+  pub heard : List ℕ
   pub given : List ℕ
   pub queued : List ℕ
   pub sent : List ℕ
@@ -122,12 +134,13 @@ pub record Course : Type 0 where
 
 -- a new connection
 abbrev pub begins : Role → Course
-begins role = record { connection = fresh role; fed = []; given = []; queued = []; sent = []; ended = false; granted = 0; spent = 0; granted_all = 0 }
+begins role = record { connection = fresh role; fed = []; heard = []; given = []; queued = []; sent = []; ended = false; granted = 0; spent = 0; granted_all = 0 }
 
 abbrev pub after_act : ℕ → Course → Act → Course
 after_act n c a = record {
   connection = after c.connection a;
   fed = c.fed ++ fed_by a;
+  heard = c.heard ++ heard_by n c.connection a;
   given = c.given ++ given_by n c.connection.state a;
   queued = c.queued ++ queued_by n a;
   sent = c.sent ++ sent_by n c.connection.state a;

@@ -1,3 +1,4 @@
+ghost use Rattle.kn_h2_courses.specs.Texts.{TextIsHeard};
 ghost use Rattle.kn_h2_courses.specs.Queues.{QueuedIsSent};
 ghost use Rattle.kn_h2_courses.specs.Windows.{WindowsAreSums};
 
@@ -11,4 +12,10 @@ pub fn connection_windows_are_sums()
 /// this end's half is given up by a reset, from here or from there.
 pub fn queued_is_sent()
     ensures { QueuedIsSent }
+{}
+
+/// While a connection has not failed, the text that was taken of a stream, followed by what is unread, is the front
+/// of what came for it while the peer's half of it was open, without padding; and all of that unless the peer reset it.
+pub fn text_is_heard()
+    ensures { TextIsHeard }
 {}
