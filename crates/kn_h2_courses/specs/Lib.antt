@@ -1,0 +1,4 @@
+pub mod Courses
+pub mod Windows
+pub mod Queues
+pub mod Texts

@@ -1,0 +1,21 @@
+ghost use Rattle.kn_h2_courses.specs.Texts.{TextIsHeard};
+ghost use Rattle.kn_h2_courses.specs.Queues.{QueuedIsSent};
+ghost use Rattle.kn_h2_courses.specs.Windows.{WindowsAreSums};
+
+/// While a connection has not failed, its sending window is 65,535, more by all increments that came, less by all
+/// DATA that was sent; and its receiving window is 6,553,500, more by all that was granted, less by all DATA that came.
+pub fn connection_windows_are_sums()
+    ensures { WindowsAreSums }
+{}
+
+/// What was sent on a stream, followed by what waits, is the front of what was queued on it, and all of that until
+/// this end's half is given up by a reset, from here or from there.
+pub fn queued_is_sent()
+    ensures { QueuedIsSent }
+{}
+
+/// While a connection has not failed, the text that was taken of a stream, followed by what is unread, is the front
+/// of what came for it while the peer's half of it was open, without padding; and all of that unless the peer reset it.
+pub fn text_is_heard()
+    ensures { TextIsHeard }
+{}

@@ -1,0 +1,7 @@
+//! Laws over the whole life of one end of a connection of HTTP/2: any list of what may be done with it, from a new
+//! connection on. It has no code that runs: its functions are laws.
+#![tactic(auto)]
+
+mod laws;
+
+pub use laws::{connection_windows_are_sums, queued_is_sent, text_is_heard};
