@@ -1,8 +1,11 @@
+pub mod AheadLemmas
 pub mod CarryLemmas
 pub mod FaceLemmas
 pub mod FacingLemmas
 pub mod FollowedLemmas
 pub mod ListSums
+pub mod MoveStep
+pub mod MoveTaken
 pub mod OwnSumLemmas
 pub mod ReadLemmas
 pub mod ReadStep

@@ -35,10 +35,10 @@ use Rattle.kn_facing.proofs.TakenLemmas.{acknowledgement_is_taken}
 
 -- ---- text waits on answered streams alone
 
-abbrev First : Stream → Type 0
+abbrev pub First : Stream → Type 0
 First st = st.answered ≡ false → (length st.queue ≡ 0) × (st.finish ≡ None)
 
-abbrev FirstOf : Option Stream → Type 0
+abbrev pub FirstOf : Option Stream → Type 0
 FirstOf o = IfSome o (λ st. First st)
 
 first_grant : (by : ℕ) (st : Stream) → First st → First (with_grant by st)
@@ -68,7 +68,7 @@ bears_first n low = record {
   fresh = λ m u above e first. (refl, refl);
 }
 
-first_at : (s : State) (n : ℕ) → AnswersFirst s → is_client s.role ≡ false → (o : Option Stream) → stream_at s.streams n ≡ o → FirstOf o
+pub first_at : (s : State) (n : ℕ) → AnswersFirst s → is_client s.role ≡ false → (o : Option Stream) → stream_at s.streams n ≡ o → FirstOf o
 first_at s n first server None e = tt
 first_at s n first server (Some st) e = first server n st e
 

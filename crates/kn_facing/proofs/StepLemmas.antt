@@ -92,10 +92,10 @@ steps_keep_faces k a b t fs ab ba h step room room_b = record {
 -- ---- steps that write nothing
 
 -- each stream was there, no less open, and as much answered
-abbrev Lower : State → ℕ → Option Stream → Type 0
+abbrev pub Lower : State → ℕ → Option Stream → Type 0
 Lower s n o = IfSome o (λ st. (a : Stream) × (stream_at s.streams n ≡ Some a) × (st.own_open ≡ true → a.own_open ≡ true) × (st.answered ≡ a.answered))
 
-itself : (s : State) (n : ℕ) (o : Option Stream) → stream_at s.streams n ≡ o → Lower s n o
+pub itself : (s : State) (n : ℕ) (o : Option Stream) → stream_at s.streams n ≡ o → Lower s n o
 itself s n None e = tt
 itself s n (Some st) e = (st, e, (λ own. own), refl)
 
@@ -164,7 +164,7 @@ silently k a b t ab ba h c =
       all_comes = same_sum a.receive t.receive c.receive;
     }
 
-changed : (s : State) (m n : ℕ) (f : Stream → Stream) → ((st : Stream) → (f st).number ≡ st.number) → ((st : Stream) → Lower s n (Some st) → Lower s n (Some (f st))) → Lower s n (stream_at (change s.streams m f) n)
+pub changed : (s : State) (m n : ℕ) (f : Stream → Stream) → ((st : Stream) → (f st).number ≡ st.number) → ((st : Stream) → Lower s n (Some st) → Lower s n (Some (f st))) → Lower s n (stream_at (change s.streams m f) n)
 changed s m n f number step = at_change (Lower s n) s.streams m n f number step (itself s n (stream_at s.streams n) refl)
 
 -- ---- text that is taken

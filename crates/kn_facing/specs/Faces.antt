@@ -4,6 +4,8 @@ use Rattle.std.specs.List.{AllByRecursion}
 use Rattle.kn_frames.specs.declared.frame.Frame.{Frame}
 use Rattle.kn_frames.specs.Frames.{IsWithinLimits}
 use Rattle.kn_hpack.specs.Fields.{Field}
+use Rattle.kn_h2_state.specs.declared.moves.Move.{Move}
+use Rattle.kn_h2_state.specs.declared.moves.Move.TheVariants.{GrantAll, Grant, Send, End, Stop}
 use Rattle.kn_h2_state.specs.declared.role.Role.TheVariants.{Server, Client}
 use Rattle.kn_h2_state.specs.declared.stream.Stream.{Stream}
 use Rattle.kn_h2_state.specs.declared.state.State.{State}
@@ -14,9 +16,10 @@ use Rattle.kn_h2_state.specs.Streams.{stream_at, on_open}
 use Rattle.kn_h2_state.specs.Rules.{is_client}
 use Rattle.kn_h2_state.specs.Feeding.{after_frame, after_frames}
 use Rattle.kn_h2_state.specs.Calls.{fresh_state, text_of, refusal, queue_refusal, takes_more, after_take, after_queue, after_finish, after_took}
+use Rattle.kn_h2_state.specs.Moves.{may, after_move}
 use Rattle.kn_h2_state.specs.Holding.{Holds}
 use Rattle.kn_h2_state.specs.Preorder.{HearsMore, OwnFacts}
-use Rattle.kn_h2_state.specs.Wire.{frame, grants_in, data_lengths_in}
+use Rattle.kn_h2_state.specs.Wire.{frame, grants_in, data_lengths_in, move_frames}
 use Rattle.kn_h2.specs.Written.{opening_list}
 use Rattle.kn_facing.specs.Facing.{emptied, IsFollowed, Awaits, AreTaken, asking}
 use Rattle.kn_facing.specs.Sums.{MayCome, MayGo, StreamSum}
@@ -133,3 +136,16 @@ FinishesKeepFaces = (a b : State) (ab ba : List Frame) (n : ℕ) (trailers : Lis
 -- A new client's end and a new server's, before anything is read: their openings are on their way.
 abbrev pub FacesBegin : Type 0
 FacesBegin = Faces (fresh_state Client) (fresh_state Server) (opening_list Client) (opening_list Server)
+
+-- ---- what is written where there is room
+
+-- a grant, of the connection or of a stream, or text
+abbrev pub IsCarrying : Move → Type 0
+IsCarrying GrantAll = Unit {0}
+IsCarrying (Grant n) = Unit {0}
+IsCarrying (Send n count) = Unit {0}
+IsCarrying (End n) = ⊥
+IsCarrying (Stop n) = ⊥
+
+abbrev pub MovesKeepFaces : Type 0
+MovesKeepFaces = (a b : State) (ab ba : List Frame) (m : Move) → Faces a b ab ba → may a m ≡ true → IsCarrying m → Faces (after_move a m) b (ab ++ move_frames a m) ba
