@@ -176,7 +176,6 @@ move_step k v s m u e ok t = record {
   };
   role = k.roles.move s m;
   hears = (k.steps s e.holds e.facts.known).move m e.facts.ended ok;
-  opened = λ client. move_opened s m;
   limits = (v.written s m e.holds ok).limits;
   taken = t.taken;
   followed = t.followed;

@@ -40,7 +40,7 @@ use Rattle.kn_facing.proofs.FaceLemmas.{Known, Runs, runs}
 use Rattle.kn_facing.proofs.ListSums.{asking-append}
 use Rattle.kn_facing.proofs.MoveStep.{Moving, MoveTaken, move_step}
 use Rattle.kn_facing.proofs.OwnSumLemmas.{move_opened}
-use Rattle.kn_facing.proofs.StepLemmas.{Lower, itself, changed, steps_keep_faces}
+use Rattle.kn_facing.proofs.StepLemmas.{Lower, itself, changed, steps_keep_faces, awaits_back}
 use Rattle.kn_facing.proofs.TakenLemmas.{data_is_taken, grant_is_taken, stream_grant_is_taken}
 
 -- ---- what the end that writes knows of the other, as it will be
@@ -378,6 +378,7 @@ pub moves_keep_faces : Known → Moving → MovesKeepFaces
 moves_keep_faces k v a b ab ba m h ok is =
     let w = knows k a b ab ba h in
     let u : State = after_frames (emptied b) ab in
-    steps_keep_faces k a b (after_move a m) (move_frames a m) ab ba h (move_step k v a m u h.end_a ok (carried a u m w ok is))
+    let step = move_step k v a m u h.end_a ok (carried a u m w ok is) in
+    steps_keep_faces k a b (after_move a m) (move_frames a m) ab ba h step (awaits_back k a b (after_move a m) ab ba h step.still step.hears (move_opened a m))
     (let same = no_replies a m is in let few = h.to_a.replies in omega (arith, same, few))
     (let nothing = asks_nothing a m is in let e = asking-append ab (move_frames a m) in let few = h.to_b.replies in omega (arith, nothing, e, few))

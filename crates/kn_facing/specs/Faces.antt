@@ -94,7 +94,6 @@ pub record IsStep (s t : State) (fs : List Frame) (u : State) : Type 0 where
   pub still : IsEnd t
   pub role : t.role ≡ s.role
   pub hears : HearsMore s t
-  pub opened : is_client s.role ≡ true → t.opened ≡ s.opened
   pub limits : AllByRecursion IsWithinLimits fs
   pub taken : AreTaken u fs
   pub followed : IsFollowed t (after_frames u fs)
@@ -104,9 +103,10 @@ pub record IsStep (s t : State) (fs : List Frame) (u : State) : Type 0 where
   pub all_goes : s.send ≡ t.send +ℤ pos (all_lengths fs)
   pub all_comes : t.receive ≡ s.receive +ℤ pos (grants_in 0 fs)
 
--- Such a step leaves them facing each other, where the replies have room that wait and that may be asked for.
+-- Such a step leaves them facing each other, where the replies have room that wait and that may be asked for, and the
+-- streams that it begins stay as they are until the other end comes to know them.
 abbrev pub StepsKeepFaces : Type 0
-StepsKeepFaces = (a b t : State) (fs ab ba : List Frame) → Faces a b ab ba → IsStep a t fs (after_frames (emptied b) ab)
+StepsKeepFaces = (a b t : State) (fs ab ba : List Frame) → Faces a b ab ba → IsStep a t fs (after_frames (emptied b) ab) → Awaits b (after_frames (emptied t) ba)
     → reply_bytes t.out + 17 * asking ba ≤ 32768 → reply_bytes b.out + 17 * asking (ab ++ fs) ≤ 32768 → Faces t b (ab ++ fs) ba
 
 -- ---- calls that write nothing
