@@ -104,7 +104,7 @@ ack_last : (t : State) (fs : List Frame) → (after_frames t fs).failed ≡ None
 unfolding after_frames
 ack_last t fs on listens = after_frames-append t fs (ack ∷ []) ∙ ack_after (after_frames t fs) on listens
 
-one_taken : (t : State) (f : Frame) → IsTaken t f → AreTaken t (f ∷ [])
+pub one_taken : (t : State) (f : Frame) → IsTaken t f → AreTaken t (f ∷ [])
 unfolding AreTaken
 one_taken t f h = (h, tt)
 

@@ -4,23 +4,26 @@ use Rattle.std.specs.List.{AllByRecursion}
 use Rattle.kn_frames.specs.declared.frame.Frame.{Frame}
 use Rattle.kn_frames.specs.Frames.{IsWithinLimits}
 use Rattle.kn_hpack.specs.Fields.{Field}
+use Rattle.kn_hpack.specs.Encoding.{block_of}
+use Rattle.kn_hpack.specs.RoundTrip.{IsSmallList}
 use Rattle.kn_h2_state.specs.declared.moves.Move.{Move}
 use Rattle.kn_h2_state.specs.declared.moves.Move.TheVariants.{GrantAll, Grant, Send, End, Stop}
 use Rattle.kn_h2_state.specs.declared.role.Role.TheVariants.{Server, Client}
 use Rattle.kn_h2_state.specs.declared.stream.Stream.{Stream}
 use Rattle.kn_h2_state.specs.declared.state.State.{State}
-use Rattle.kn_h2_state.specs.Limits.{default_window}
+use Rattle.kn_h2_state.specs.Limits.{default_window, frame_limit}
 use Rattle.kn_h2_state.specs.Outgoing.{reply_bytes}
 use Rattle.kn_h2_state.specs.Payloads.{has}
 use Rattle.kn_h2_state.specs.Streams.{stream_at, on_open}
+use Rattle.kn_h2_state.specs.Heads.{is_malformed_request}
 use Rattle.kn_h2_state.specs.Rules.{is_client}
 use Rattle.kn_h2_state.specs.Feeding.{after_frame, after_frames}
-use Rattle.kn_h2_state.specs.Calls.{fresh_state, text_of, refusal, queue_refusal, takes_more, after_take, after_queue, after_finish, after_took}
+use Rattle.kn_h2_state.specs.Calls.{fresh_state, text_of, refusal, queue_refusal, takes_more, after_take, after_begin, after_queue, after_finish, after_took}
 use Rattle.kn_h2_state.specs.Moves.{may, after_move}
 use Rattle.kn_h2_state.specs.Holding.{Holds}
 use Rattle.kn_h2_state.specs.Preorder.{HearsMore, OwnFacts}
 use Rattle.kn_h2_state.specs.Wire.{frame, grants_in, data_lengths_in, move_frames}
-use Rattle.kn_h2.specs.Written.{opening_list}
+use Rattle.kn_h2.specs.Written.{opening_list, begin_list}
 use Rattle.kn_facing.specs.Facing.{emptied, IsFollowed, Awaits, AreTaken, asking}
 use Rattle.kn_facing.specs.Sums.{MayCome, MayGo, StreamSum}
 
@@ -149,3 +152,15 @@ IsCarrying (Stop n) = ⊥
 
 abbrev pub MovesKeepFaces : Type 0
 MovesKeepFaces = (a b : State) (ab ba : List Frame) (m : Move) → Faces a b ab ba → may a m ≡ true → IsCarrying m → Faces (after_move a m) b (ab ++ move_frames a m) ba
+
+-- ---- heads
+
+-- The fields are a list that the other end reads, and their block stands in one frame.
+pub record IsOneFrame (wrote : Bool) (fields : List Field) : Type 0 where
+  pub small : IsSmallList fields
+  pub short : length (block_of wrote fields) ≤ frame_limit
+
+-- a client begins its one stream, by a head that is a request, where the reply that it may ask for has room
+abbrev pub BeginKeepsFaces : Type 0
+BeginKeepsFaces = (a b : State) (ab ba : List Frame) (fields : List Field) → Faces a b ab ba → is_client a.role ≡ true → a.opened ≡ 0 → is_malformed_request fields ≡ false → IsOneFrame a.encoder fields
+    → reply_bytes b.out + 17 * asking (ab ++ begin_list a fields) ≤ 32768 → Faces (after_begin fields a) b (ab ++ begin_list a fields) ba
