@@ -140,7 +140,7 @@ may_spend left count fits = grind (arith, ints)
 pub may_grow : (left : ℤ) (by : ℕ) → (left +ℤ pos by) ≤ℤ pos 2147483647 → can_grow left (pos by) ≡ true
 may_grow left by fits = grind (arith, ints)
 
-odd_at : (low high n : ℕ) (ss : List Stream) (st : Stream) → Rising low high ss → stream_at ss n ≡ Some st → n % 2 ≡ 1
+pub odd_at : (low high n : ℕ) (ss : List Stream) (st : Stream) → Rising low high ss → stream_at ss n ≡ Some st → n % 2 ≡ 1
 unfolding Rising stream_at
 odd_at low high n [] st r e = absurd cc
 odd_at low high n (x ∷ ss) st (above, odd, rest) e = by_test (eqb x.number n) refl e (λ g. odd_at x.number high n ss st rest g)
@@ -149,7 +149,7 @@ odd_at low high n (x ∷ ss) st (above, odd, rest) e = by_test (eqb x.number n) 
     by_test true t g later = let same : x.number ≡ n = eqb-true x.number n t in subst (λ (k : ℕ). k % 2 ≡ 1) same odd
     by_test false t g later = later g
 
-not_even : (k : ℕ) → k ≡ 1 → eqb k 0 ≡ false
+pub not_even : (k : ℕ) → k ≡ 1 → eqb k 0 ≡ false
 not_even k e = ap (λ (j : ℕ). eqb j 0) e
 
 not_above : (x y : ℕ) → y ≤ x → nat_lt x y ≡ false

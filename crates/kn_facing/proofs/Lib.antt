@@ -1,4 +1,5 @@
 pub mod AheadLemmas
+pub mod AnswerStep
 pub mod BeginStep
 pub mod CarryLemmas
 pub mod FaceLemmas

@@ -18,13 +18,13 @@ use Rattle.kn_h2_state.specs.Streams.{stream_at, on_open}
 use Rattle.kn_h2_state.specs.Heads.{is_malformed_request}
 use Rattle.kn_h2_state.specs.Rules.{is_client}
 use Rattle.kn_h2_state.specs.Feeding.{after_frame, after_frames}
-use Rattle.kn_h2_state.specs.Calls.{fresh_state, text_of, refusal, queue_refusal, takes_more, after_take, after_begin, after_queue, after_finish, after_took}
-use Rattle.kn_h2_state.specs.Moves.{may, after_move}
+use Rattle.kn_h2_state.specs.Calls.{fresh_state, text_of, refusal, queue_refusal, takes_more, after_take, after_begin, after_queue, after_finish, after_answer, after_took}
+use Rattle.kn_h2_state.specs.Moves.{may, after_move, headers_frames}
 use Rattle.kn_h2_state.specs.Holding.{Holds}
 use Rattle.kn_h2_state.specs.Preorder.{HearsMore, OwnFacts}
-use Rattle.kn_h2_state.specs.Wire.{frame, grants_in, data_lengths_in, move_frames}
+use Rattle.kn_h2_state.specs.Wire.{frame, grants_in, data_lengths_in, head_list, move_frames}
 use Rattle.kn_h2.specs.Written.{opening_list, begin_list}
-use Rattle.kn_facing.specs.Facing.{emptied, IsFollowed, Awaits, AreTaken, asking}
+use Rattle.kn_facing.specs.Facing.{emptied, IsFollowed, Awaits, AreTaken, IsResponse, asking}
 use Rattle.kn_facing.specs.Sums.{MayCome, MayGo, StreamSum}
 
 -- ---- windows of the connection
@@ -164,3 +164,9 @@ pub record IsOneFrame (wrote : Bool) (fields : List Field) : Type 0 where
 abbrev pub BeginKeepsFaces : Type 0
 BeginKeepsFaces = (a b : State) (ab ba : List Frame) (fields : List Field) → Faces a b ab ba → is_client a.role ≡ true → a.opened ≡ 0 → is_malformed_request fields ≡ false → IsOneFrame a.encoder fields
     → reply_bytes b.out + 17 * asking (ab ++ begin_list a fields) ≤ 32768 → Faces (after_begin fields a) b (ab ++ begin_list a fields) ba
+
+-- a server answers a stream for the first time, by the head of a response, where its reply and those to come have room
+abbrev pub AnswerKeepsFaces : Type 0
+AnswerKeepsFaces = (a b : State) (ab ba : List Frame) (n : ℕ) (fields : List Field) → Faces a b ab ba → is_client a.role ≡ false → refusal takes_more a n ≡ None → on_open a.streams n (λ st. st.answered) ≡ false
+    → IsResponse fields → IsOneFrame a.encoder fields → reply_bytes a.out + length (headers_frames n 0 (block_of a.encoder fields)) + 17 * asking ba ≤ 32768
+    → reply_bytes b.out + 17 * asking (ab ++ head_list n 0 (block_of a.encoder fields)) ≤ 32768 → Faces (after_answer n fields a) b (ab ++ head_list n 0 (block_of a.encoder fields)) ba
