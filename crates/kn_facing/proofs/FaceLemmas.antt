@@ -119,21 +119,29 @@ pub record Before (s x : State) (fs : List Frame) : Type 0 where
   pub awaits : Awaits s (after_frames x fs)
   pub room : reply_bytes x.out + 17 * asking fs ≤ reply_limit
 
+pub server_of : (c d : Bool) → c ≡ not d → c ≡ false → d ≡ true
+server_of c true e g = refl
+server_of c false e g = absurd cc
+
+pub way_taken : Known → (s x y : State) (fs : List Frame) → s.opened ≤ 1 → Before s x fs → Holds y → y.failed ≡ None → HearsMore x y → reply_bytes y.out + 17 * asking fs ≤ reply_limit → AreTakenToo x y fs
+way_taken k s x y fs one b hy on hears room = more_are_taken k.heard k.frames k.above k.keep k.roles x y fs b.holds hy hears b.goes on b.limits b.taken b.room room few
+  where
+    few : is_client x.role ≡ false → (after_frames x fs).opened ≤ 1
+    few server = let e = b.followed.opened (server_of (is_client x.role) (is_client s.role) b.other server) in omega (arith, e, one)
+
+pub way_followed : Known → (s x y : State) (fs : List Frame) → Holds s → Before s x fs → AreTakenToo x y fs → IsFollowed s (after_frames y fs)
+way_followed k s x y fs hs b too = stays_followed s (after_frames x fs) (after_frames y fs) hs (ap is_client (runs k.keep x fs b.holds b.goes b.limits b.taken b.room).steady.role ∙ b.other) too.more b.followed
+
 pub way_on : Known → (s x y : State) (fs : List Frame) → Holds s → s.opened ≤ 1 → Before s x fs → Holds y → y.failed ≡ None → HearsMore x y → (is_client x.role ≡ true → y.opened ≡ x.opened)
     → reply_bytes y.out + 17 * asking fs ≤ reply_limit → WayOn s y fs
 way_on k s x y fs hs one b hy on hears same room = record {
   taken = too.taken;
-  followed = stays_followed s (after_frames x fs) (after_frames y fs) hs (ap is_client run_x.steady.role ∙ b.other) too.more b.followed;
+  followed = way_followed k s x y fs hs b too;
   awaits = awaits_on s (after_frames x fs) (after_frames y fs) too.more opened run_y.holds b.awaits;
 }
   where
-    server_of : (c d : Bool) → c ≡ not d → c ≡ false → d ≡ true
-    server_of c true e g = refl
-    server_of c false e g = absurd cc
-    few : is_client x.role ≡ false → (after_frames x fs).opened ≤ 1
-    few server = let e = b.followed.opened (server_of (is_client x.role) (is_client s.role) b.other server) in omega (arith, e, one)
     too : AreTakenToo x y fs
-    too = more_are_taken k.heard k.frames k.above k.keep k.roles x y fs b.holds hy hears b.goes on b.limits b.taken b.room room few
+    too = way_taken k s x y fs one b hy on hears room
     run_x : Runs x fs
     run_x = runs k.keep x fs b.holds b.goes b.limits b.taken b.room
     run_y : Runs y fs

@@ -1,8 +1,13 @@
+pub mod AheadLemmas
+pub mod AnswerStep
+pub mod BeginStep
 pub mod CarryLemmas
 pub mod FaceLemmas
 pub mod FacingLemmas
 pub mod FollowedLemmas
 pub mod ListSums
+pub mod MoveStep
+pub mod MoveTaken
 pub mod OwnSumLemmas
 pub mod ReadLemmas
 pub mod ReadStep

@@ -35,10 +35,10 @@ use Rattle.kn_facing.proofs.TakenLemmas.{acknowledgement_is_taken}
 
 -- ---- text waits on answered streams alone
 
-abbrev First : Stream → Type 0
+abbrev pub First : Stream → Type 0
 First st = st.answered ≡ false → (length st.queue ≡ 0) × (st.finish ≡ None)
 
-abbrev FirstOf : Option Stream → Type 0
+abbrev pub FirstOf : Option Stream → Type 0
 FirstOf o = IfSome o (λ st. First st)
 
 first_grant : (by : ℕ) (st : Stream) → First st → First (with_grant by st)
@@ -68,7 +68,7 @@ bears_first n low = record {
   fresh = λ m u above e first. (refl, refl);
 }
 
-first_at : (s : State) (n : ℕ) → AnswersFirst s → is_client s.role ≡ false → (o : Option Stream) → stream_at s.streams n ≡ o → FirstOf o
+pub first_at : (s : State) (n : ℕ) → AnswersFirst s → is_client s.role ≡ false → (o : Option Stream) → stream_at s.streams n ≡ o → FirstOf o
 first_at s n first server None e = tt
 first_at s n first server (Some st) e = first server n st e
 
@@ -104,7 +104,7 @@ ack_last : (t : State) (fs : List Frame) → (after_frames t fs).failed ≡ None
 unfolding after_frames
 ack_last t fs on listens = after_frames-append t fs (ack ∷ []) ∙ ack_after (after_frames t fs) on listens
 
-one_taken : (t : State) (f : Frame) → IsTaken t f → AreTaken t (f ∷ [])
+pub one_taken : (t : State) (f : Frame) → IsTaken t f → AreTaken t (f ∷ [])
 unfolding AreTaken
 one_taken t f h = (h, tt)
 

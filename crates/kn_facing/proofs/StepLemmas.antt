@@ -26,10 +26,11 @@ use Rattle.kn_h2.proofs.FoundLemmas.{found_open}
 use Rattle.kn_h2_state.proofs.PieceLaws.{after_frames-append}
 use Rattle.kn_h2.proofs.CallBounds.{holds_take, holds_took, holds_queue, holds_finish}
 use Rattle.kn_facing.specs.Facing.{emptied, IsFollowed, Awaits, AreTaken, asking}
+use Rattle.kn_facing.specs.Laws.{AreTakenToo}
 use Rattle.kn_facing.specs.Sums.{MayCome, MayGo, LeavesWindows}
 use Rattle.kn_facing.specs.Faces.{all_lengths, AnswersFirst, IsEnd, IsSound, Faces, IsStep, IsAnsweredAt, StepsKeepFaces, TakesKeepFaces, TookKeepsFaces, QueuesKeepFaces, FinishesKeepFaces}
 use Rattle.kn_facing.proofs.CarryLemmas.{hears_emptied, holds_emptied, none_waits}
-use Rattle.kn_facing.proofs.FaceLemmas.{Known, turned, WayOn, Before, way_on}
+use Rattle.kn_facing.proofs.FaceLemmas.{Known, turned, WayOn, Before, way_on, way_taken, way_followed}
 use Rattle.kn_facing.proofs.ListSums.{grants-append, lengths-append, all-append, all_by-append}
 use Rattle.kn_facing.proofs.OwnSumLemmas.{calls_leave_both}
 use Rattle.kn_facing.proofs.ReadStep.{taken_join}
@@ -48,10 +49,39 @@ all_goes_sum x x' y d dd dd' gg e k f = omega (arith, ints, e, k, f)
 all_comes_sum : (x y y' : ℤ) (g dd gg gg' : ℕ) → (x +ℤ pos (dd + gg)) ≡ y → y' ≡ (y +ℤ pos g) → gg' ≡ gg + g → (x +ℤ pos (dd + gg')) ≡ y'
 all_comes_sum x y y' g dd gg gg' e k f = omega (arith, ints, e, k, f)
 
+-- ---- what comes to the end that does a step
+
+back_before : (a b : State) (ab ba : List Frame) → Faces a b ab ba → Before b (emptied a) ba
+back_before a b ab ba h = record {
+  holds = holds_emptied a h.end_a.holds;
+  goes = h.end_a.goes;
+  other = (turned a b ab ba h).other;
+  limits = h.to_a.limits;
+  taken = h.to_a.taken;
+  followed = h.to_a.followed;
+  awaits = h.to_a.awaits;
+  room = let none = none_waits in let few = h.to_a.replies in omega (arith, none, few);
+}
+
+back_room : (a b t : State) (ab ba : List Frame) → Faces a b ab ba → reply_bytes (emptied t).out + 17 * asking ba ≤ reply_limit
+back_room a b t ab ba h = let none = none_waits in let few = h.to_a.replies in omega (arith, none, few)
+
+pub taken_back : Known → (a b t : State) (ab ba : List Frame) → Faces a b ab ba → IsEnd t → HearsMore a t → AreTakenToo (emptied a) (emptied t) ba
+taken_back k a b t ab ba h still hears =
+    way_taken k b (emptied a) (emptied t) ba h.end_b.one (back_before a b ab ba h) (holds_emptied t still.holds) still.goes (hears_emptied a t hears) (back_room a b t ab ba h)
+
+followed_back : Known → (a b t : State) (ab ba : List Frame) → Faces a b ab ba → IsEnd t → HearsMore a t → AreTakenToo (emptied a) (emptied t) ba → IsFollowed b (after_frames (emptied t) ba)
+followed_back k a b t ab ba h still hears back = way_followed k b (emptied a) (emptied t) ba h.end_b.holds (back_before a b ab ba h) back
+
+-- where it begins no stream, what the other end does not know yet stays as it is
+pub awaits_back : Known → (a b t : State) (ab ba : List Frame) → Faces a b ab ba → IsEnd t → HearsMore a t → t.opened ≡ a.opened → Awaits b (after_frames (emptied t) ba)
+awaits_back k a b t ab ba h still hears same =
+    (way_on k b (emptied a) (emptied t) ba h.end_b.holds h.end_b.one (back_before a b ab ba h) (holds_emptied t still.holds) still.goes (hears_emptied a t hears) (λ client. same) (back_room a b t ab ba h)).awaits
+
 -- ---- any step
 
 pub steps_keep_faces : Known → StepsKeepFaces
-steps_keep_faces k a b t fs ab ba h step room room_b = record {
+steps_keep_faces k a b t fs ab ba h step waits room room_b = record {
   other = h.other ∙ ap (λ r. not (is_client r)) (sym step.role);
   end_a = step.still;
   end_b = h.end_b;
@@ -62,7 +92,7 @@ steps_keep_faces k a b t fs ab ba h step room room_b = record {
     awaits = subst (λ (u : State). Awaits t u) (sym joined) step.awaits;
     replies = room_b;
   };
-  to_a = record { limits = h.to_a.limits; taken = way.taken; followed = way.followed; awaits = way.awaits; replies = room };
+  to_a = record { limits = h.to_a.limits; taken = back.taken; followed = followed_back k a b t ab ba h step.still step.hears back; awaits = waits; replies = room };
   sum_ab = λ n x y mx my. goes_sum x y (data_lengths_in n fs) (data_lengths_in n ab) (data_lengths_in n (ab ++ fs)) (grants_in n ba)
       (h.sum_ab n (x +ℤ pos (data_lengths_in n fs)) y (step.goes n x mx) my) (lengths-append n ab fs);
   sum_ba = λ n x y mx my. comes_sum x y (grants_in n fs) (data_lengths_in n ba) (grants_in n ab) (grants_in n (ab ++ fs))
@@ -73,29 +103,16 @@ steps_keep_faces k a b t fs ab ba h step room room_b = record {
   where
     joined : after_frames (emptied b) (ab ++ fs) ≡ after_frames (after_frames (emptied b) ab) fs
     joined = after_frames-append (emptied b) ab fs
-    before : Before b (emptied a) ba
-    before = record {
-      holds = holds_emptied a h.end_a.holds;
-      goes = h.end_a.goes;
-      other = (turned a b ab ba h).other;
-      limits = h.to_a.limits;
-      taken = h.to_a.taken;
-      followed = h.to_a.followed;
-      awaits = h.to_a.awaits;
-      room = let none = none_waits in let few = h.to_a.replies in omega (arith, none, few);
-    }
-    way : WayOn b (emptied t) ba
-    way =
-        way_on k b (emptied a) (emptied t) ba h.end_b.holds h.end_b.one before (holds_emptied t step.still.holds) step.still.goes (hears_emptied a t step.hears) step.opened
-        (let none = none_waits in let few = h.to_a.replies in omega (arith, none, few))
+    back : AreTakenToo (emptied a) (emptied t) ba
+    back = taken_back k a b t ab ba h step.still step.hears
 
 -- ---- steps that write nothing
 
 -- each stream was there, no less open, and as much answered
-abbrev Lower : State → ℕ → Option Stream → Type 0
+abbrev pub Lower : State → ℕ → Option Stream → Type 0
 Lower s n o = IfSome o (λ st. (a : Stream) × (stream_at s.streams n ≡ Some a) × (st.own_open ≡ true → a.own_open ≡ true) × (st.answered ≡ a.answered))
 
-itself : (s : State) (n : ℕ) (o : Option Stream) → stream_at s.streams n ≡ o → Lower s n o
+pub itself : (s : State) (n : ℕ) (o : Option Stream) → stream_at s.streams n ≡ o → Lower s n o
 itself s n None e = tt
 itself s n (Some st) e = (st, e, (λ own. own), refl)
 
@@ -142,7 +159,7 @@ silently : Known → (a b t : State) (ab ba : List Frame) → Faces a b ab ba �
 unfolding AreTaken after_frames grants_in data_lengths_in all_lengths
 silently k a b t ab ba h c =
     subst (λ (fs : List Frame). Faces t b fs ba) (append-nil ab)
-    (steps_keep_faces k a b t [] ab ba h step
+    (steps_keep_faces k a b t [] ab ba h step (awaits_back k a b t ab ba h c.still c.hears c.opened)
     (let few = h.to_a.replies in let less = c.replies in omega (arith, few, less))
     (subst (λ (fs : List Frame). reply_bytes b.out + 17 * asking fs ≤ 32768) (sym (append-nil ab)) h.to_b.replies))
   where
@@ -153,7 +170,6 @@ silently k a b t ab ba h c =
       still = c.still;
       role = c.role;
       hears = c.hears;
-      opened = λ client. c.opened;
       limits = tt;
       taken = tt;
       followed = lower_followed a t u c h.to_b.followed;
@@ -164,7 +180,7 @@ silently k a b t ab ba h c =
       all_comes = same_sum a.receive t.receive c.receive;
     }
 
-changed : (s : State) (m n : ℕ) (f : Stream → Stream) → ((st : Stream) → (f st).number ≡ st.number) → ((st : Stream) → Lower s n (Some st) → Lower s n (Some (f st))) → Lower s n (stream_at (change s.streams m f) n)
+pub changed : (s : State) (m n : ℕ) (f : Stream → Stream) → ((st : Stream) → (f st).number ≡ st.number) → ((st : Stream) → Lower s n (Some st) → Lower s n (Some (f st))) → Lower s n (stream_at (change s.streams m f) n)
 changed s m n f number step = at_change (Lower s n) s.streams m n f number step (itself s n (stream_at s.streams n) refl)
 
 -- ---- text that is taken

@@ -65,11 +65,11 @@ less_none : (k : ℕ) → (k - 0) - 0 ≡ k
 less_none k = omega arith
 
 -- HEADERS without padding are all content
-content_is : (n : ℕ) (payload : List ℕ) → content (frame 1 4 n payload) ≡ payload
+pub content_is : (n : ℕ) (payload : List ℕ) → content (frame 1 4 n payload) ≡ payload
 unfolding content
 content_is n payload = ap (λ k. take k payload) (less_none (length payload)) ∙ take_all (length payload) payload (omega arith)
 
-content_last : (n : ℕ) (payload : List ℕ) → content (frame 1 5 n payload) ≡ payload
+pub content_last : (n : ℕ) (payload : List ℕ) → content (frame 1 5 n payload) ≡ payload
 unfolding content
 content_last n payload = ap (λ k. take k payload) (less_none (length payload)) ∙ take_all (length payload) payload (omega arith)
 

@@ -4,21 +4,27 @@ use Rattle.std.specs.List.{AllByRecursion}
 use Rattle.kn_frames.specs.declared.frame.Frame.{Frame}
 use Rattle.kn_frames.specs.Frames.{IsWithinLimits}
 use Rattle.kn_hpack.specs.Fields.{Field}
+use Rattle.kn_hpack.specs.Encoding.{block_of}
+use Rattle.kn_hpack.specs.RoundTrip.{IsSmallList}
+use Rattle.kn_h2_state.specs.declared.moves.Move.{Move}
+use Rattle.kn_h2_state.specs.declared.moves.Move.TheVariants.{GrantAll, Grant, Send, End, Stop}
 use Rattle.kn_h2_state.specs.declared.role.Role.TheVariants.{Server, Client}
 use Rattle.kn_h2_state.specs.declared.stream.Stream.{Stream}
 use Rattle.kn_h2_state.specs.declared.state.State.{State}
-use Rattle.kn_h2_state.specs.Limits.{default_window}
+use Rattle.kn_h2_state.specs.Limits.{default_window, frame_limit}
 use Rattle.kn_h2_state.specs.Outgoing.{reply_bytes}
 use Rattle.kn_h2_state.specs.Payloads.{has}
 use Rattle.kn_h2_state.specs.Streams.{stream_at, on_open}
+use Rattle.kn_h2_state.specs.Heads.{is_malformed_request}
 use Rattle.kn_h2_state.specs.Rules.{is_client}
 use Rattle.kn_h2_state.specs.Feeding.{after_frame, after_frames}
-use Rattle.kn_h2_state.specs.Calls.{fresh_state, text_of, refusal, queue_refusal, takes_more, after_take, after_queue, after_finish, after_took}
+use Rattle.kn_h2_state.specs.Calls.{fresh_state, text_of, refusal, queue_refusal, takes_more, after_take, after_begin, after_queue, after_finish, after_answer, after_took}
+use Rattle.kn_h2_state.specs.Moves.{may, after_move, headers_frames}
 use Rattle.kn_h2_state.specs.Holding.{Holds}
 use Rattle.kn_h2_state.specs.Preorder.{HearsMore, OwnFacts}
-use Rattle.kn_h2_state.specs.Wire.{frame, grants_in, data_lengths_in}
-use Rattle.kn_h2.specs.Written.{opening_list}
-use Rattle.kn_facing.specs.Facing.{emptied, IsFollowed, Awaits, AreTaken, asking}
+use Rattle.kn_h2_state.specs.Wire.{frame, grants_in, data_lengths_in, head_list, move_frames}
+use Rattle.kn_h2.specs.Written.{opening_list, begin_list}
+use Rattle.kn_facing.specs.Facing.{emptied, IsFollowed, Awaits, AreTaken, IsResponse, asking}
 use Rattle.kn_facing.specs.Sums.{MayCome, MayGo, StreamSum}
 
 -- ---- windows of the connection
@@ -91,7 +97,6 @@ pub record IsStep (s t : State) (fs : List Frame) (u : State) : Type 0 where
   pub still : IsEnd t
   pub role : t.role ≡ s.role
   pub hears : HearsMore s t
-  pub opened : is_client s.role ≡ true → t.opened ≡ s.opened
   pub limits : AllByRecursion IsWithinLimits fs
   pub taken : AreTaken u fs
   pub followed : IsFollowed t (after_frames u fs)
@@ -101,9 +106,10 @@ pub record IsStep (s t : State) (fs : List Frame) (u : State) : Type 0 where
   pub all_goes : s.send ≡ t.send +ℤ pos (all_lengths fs)
   pub all_comes : t.receive ≡ s.receive +ℤ pos (grants_in 0 fs)
 
--- Such a step leaves them facing each other, where the replies have room that wait and that may be asked for.
+-- Such a step leaves them facing each other, where the replies have room that wait and that may be asked for, and the
+-- streams that it begins stay as they are until the other end comes to know them.
 abbrev pub StepsKeepFaces : Type 0
-StepsKeepFaces = (a b t : State) (fs ab ba : List Frame) → Faces a b ab ba → IsStep a t fs (after_frames (emptied b) ab)
+StepsKeepFaces = (a b t : State) (fs ab ba : List Frame) → Faces a b ab ba → IsStep a t fs (after_frames (emptied b) ab) → Awaits b (after_frames (emptied t) ba)
     → reply_bytes t.out + 17 * asking ba ≤ 32768 → reply_bytes b.out + 17 * asking (ab ++ fs) ≤ 32768 → Faces t b (ab ++ fs) ba
 
 -- ---- calls that write nothing
@@ -133,3 +139,34 @@ FinishesKeepFaces = (a b : State) (ab ba : List Frame) (n : ℕ) (trailers : Lis
 -- A new client's end and a new server's, before anything is read: their openings are on their way.
 abbrev pub FacesBegin : Type 0
 FacesBegin = Faces (fresh_state Client) (fresh_state Server) (opening_list Client) (opening_list Server)
+
+-- ---- what is written where there is room
+
+-- a grant, of the connection or of a stream, or text
+abbrev pub IsCarrying : Move → Type 0
+IsCarrying GrantAll = Unit {0}
+IsCarrying (Grant n) = Unit {0}
+IsCarrying (Send n count) = Unit {0}
+IsCarrying (End n) = ⊥
+IsCarrying (Stop n) = ⊥
+
+abbrev pub MovesKeepFaces : Type 0
+MovesKeepFaces = (a b : State) (ab ba : List Frame) (m : Move) → Faces a b ab ba → may a m ≡ true → IsCarrying m → Faces (after_move a m) b (ab ++ move_frames a m) ba
+
+-- ---- heads
+
+-- The fields are a list that the other end reads, and their block stands in one frame.
+pub record IsOneFrame (wrote : Bool) (fields : List Field) : Type 0 where
+  pub small : IsSmallList fields
+  pub short : length (block_of wrote fields) ≤ frame_limit
+
+-- a client begins its one stream, by a head that is a request, where the reply that it may ask for has room
+abbrev pub BeginKeepsFaces : Type 0
+BeginKeepsFaces = (a b : State) (ab ba : List Frame) (fields : List Field) → Faces a b ab ba → is_client a.role ≡ true → a.opened ≡ 0 → is_malformed_request fields ≡ false → IsOneFrame a.encoder fields
+    → reply_bytes b.out + 17 * asking (ab ++ begin_list a fields) ≤ 32768 → Faces (after_begin fields a) b (ab ++ begin_list a fields) ba
+
+-- a server answers a stream for the first time, by the head of a response, where its reply and those to come have room
+abbrev pub AnswerKeepsFaces : Type 0
+AnswerKeepsFaces = (a b : State) (ab ba : List Frame) (n : ℕ) (fields : List Field) → Faces a b ab ba → is_client a.role ≡ false → refusal takes_more a n ≡ None → on_open a.streams n (λ st. st.answered) ≡ false
+    → IsResponse fields → IsOneFrame a.encoder fields → reply_bytes a.out + length (headers_frames n 0 (block_of a.encoder fields)) + 17 * asking ba ≤ 32768
+    → reply_bytes b.out + 17 * asking (ab ++ head_list n 0 (block_of a.encoder fields)) ≤ 32768 → Faces (after_answer n fields a) b (ab ++ head_list n 0 (block_of a.encoder fields)) ba
