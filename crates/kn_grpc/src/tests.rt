@@ -132,6 +132,48 @@ fn one_message_is_held(rt: HostRuntime) {
     assert!(rt; holds(&messages, b"x"));
 }
 
+/// What stands at the front, as a text.
+fn front_of<'a>(messages: &'a Messages) -> &'a [u8] {
+    match messages.first() {
+        Front::Less => b"less",
+        Front::Whole { message } => message,
+        Front::Bad { .. } => b"bad",
+    }
+}
+
+#[test]
+fn what_stands_at_the_front(rt: HostRuntime) {
+    let mut messages = Messages::new(rt.alloc());
+    assert!(rt; messages.is_empty());
+    assert_eq!(rt; front_of(&messages), b"less".as_slice());
+    assert_eq!(rt; messages.feed(b"\x00\x00\x00\x00\x02h"), Ok(6));
+    assert!(rt; !messages.is_empty());
+    assert_eq!(rt; front_of(&messages), b"less".as_slice());
+    assert_eq!(rt; messages.feed(b"i\x02"), Ok(1));
+    assert_eq!(rt; front_of(&messages), b"hi".as_slice());
+    messages.pop(rt.alloc());
+    assert!(rt; messages.feed(b"\x02").is_err());
+    assert_eq!(rt; front_of(&messages), b"bad".as_slice());
+}
+
+/// The service in the path of a head of this method and path.
+fn service_named(alloc: Global, method: &str, path: &str) -> Result<Option<Service>, NoMemory> {
+    let mut headers = Headers::new(alloc);
+    headers.add(alloc, b":method", method.as_bytes())?;
+    headers.add(alloc, b":path", path.as_bytes())?;
+    Ok(service_in_path(&headers))
+}
+
+#[test]
+fn services_in_paths(rt: HostRuntime) -> Result<(), Fail> {
+    let alloc = rt.alloc();
+    assert!(rt; service_named(alloc, "POST", "/AgentService/Connect")? == Some(Service::Agent));
+    assert!(rt; service_named(alloc, "POST", "/x.ProxyService/Proxy")? == Some(Service::Proxy));
+    assert!(rt; service_named(alloc, "POST", "/ProxyService")?.is_none());
+    assert!(rt; service_named(alloc, "GET", "/ProxyService/Proxy")?.is_none());
+    Ok(())
+}
+
 #[test]
 fn a_fault_is_answered_again(rt: HostRuntime) {
     let mut messages = Messages::new(rt.alloc());
