@@ -70,7 +70,7 @@ is_answered n fields a room = rw (not_flooded reply_limit (reply_bytes a.out + l
 
 -- ---- the client's side
 
-abbrev read_head : State → State
+abbrev pub read_head : State → State
 read_head u = record u { began = true; block = None; decoder = no_table }
 
 abbrev with_head : ℕ → List Field → State → State
@@ -125,10 +125,10 @@ heard u n fields (Some c) = by_open (is_open c)
     by_open false = record { role = refl; began = refl; block = refl; decoder = refl; opened = refl }
 
 -- a stream that is seen alike
-record Alike (y c : Stream) : Type 0 where
-  up : is_open c ≡ is_open y
-  peer : y.peer_open ≡ c.peer_open
-  head : y.answered ≡ c.answered
+pub record Alike (y c : Stream) : Type 0 where
+  pub up : is_open c ≡ is_open y
+  pub peer : y.peer_open ≡ c.peer_open
+  pub head : y.answered ≡ c.answered
 
 peer_of : Option Seen → Bool
 peer_of None = true
@@ -142,7 +142,7 @@ head_of_seen : Option Seen → Bool
 head_of_seen None = true
 head_of_seen (Some s) = s.answered
 
-alike : (y : Stream) (o : Option Stream) → seen (Some y) ≡ seen o → (c : Stream) × (o ≡ Some c) × Alike y c
+pub alike : (y : Stream) (o : Option Stream) → seen (Some y) ≡ seen o → (c : Stream) × (o ≡ Some c) × Alike y c
 unfolding peer_of own_of head_of_seen
 alike y None e = let gone : seen (Some y) ≡ None = e in absurd cc
 alike y (Some c) e =

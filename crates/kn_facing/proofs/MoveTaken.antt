@@ -196,7 +196,7 @@ grant_frames : (s : State) (n : ℕ) (st : Stream) → stream_at s.streams n ≡
 unfolding move_frames
 grant_frames s n st e = ap (λ (o : Option Stream). made_frames s (Grant n) o) e
 
-not_zero : (s : State) (n : ℕ) (st : Stream) → Holds s → stream_at s.streams n ≡ Some st → eqb n 0 ≡ false
+pub not_zero : (s : State) (n : ℕ) (st : Stream) → Holds s → stream_at s.streams n ≡ Some st → eqb n 0 ≡ false
 not_zero s n st holds at = ne_eqb n 0 (λ e. contrary (above_0 s n st holds at) (ap (λ (k : ℕ). eqb 0 k) e))
   where
     contrary : eqb 0 n ≡ false → eqb 0 n ≡ true → ⊥

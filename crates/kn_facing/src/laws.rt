@@ -1,6 +1,6 @@
 ghost use Rattle.kn_facing.specs.Taken.{DataIsTaken, LastDataIsTaken, RequestIsTaken, ResponseIsTaken, TrailersAreTaken, ResetIsTaken, GrantIsTaken, StreamGrantIsTaken, ClientSettingsAreTaken, ServerSettingsAreTaken, AcknowledgementIsTaken};
 ghost use Rattle.kn_facing.specs.Sums.{FramesTake, FramesGrant, MovesShiftBoth, CallsLeaveBoth};
-ghost use Rattle.kn_facing.specs.Faces.{FacesTurn, FramesKeepFaces, StepsKeepFaces, TakesKeepFaces, TookKeepsFaces, QueuesKeepFaces, FinishesKeepFaces, FacesBegin, MovesKeepFaces, BeginKeepsFaces, AnswerKeepsFaces};
+ghost use Rattle.kn_facing.specs.Faces.{FacesTurn, FramesKeepFaces, StepsKeepFaces, TakesKeepFaces, TookKeepsFaces, QueuesKeepFaces, FinishesKeepFaces, FacesBegin, MovesKeepFaces, BeginKeepsFaces, AnswerKeepsFaces, EndKeepsFaces, StopKeepsFaces};
 ghost use Rattle.kn_facing.specs.Laws.{AcceptsJoin, AcceptsPart, NoFaultBefore, ReadsOn, OwnStepsTake, StaysFollowed, FewAreRead, MoreAreTaken, FramesKeepFollowed};
 
 /// Frames that come behind others are looked at once these were read.
@@ -209,4 +209,26 @@ pub fn answer_keeps_faces()
     kn_h2::frames_keep();
     kn_h2::role_stays();
     kn_h2::windows_follow();
+}
+
+/// So they do where a server ends its half of a stream by trailers that stand in one frame, and where it tells a
+/// client that goes on to stop.
+pub fn ends_keep_faces()
+    ensures trailers { EndKeepsFaces }
+    ensures stops { StopKeepsFaces }
+{
+    kn_h2_state::more_is_heard();
+    kn_h2_state::opened_is_above();
+    kn_h2_state::answered_is_kept();
+    kn_h2_state::own_steps_are_heard();
+    kn_h2_state::own_facts_stay();
+    kn_h2_state::next_block_is_read();
+    kn_h2_state::written_is_read();
+    kn_h2_state::moves_are_written();
+    kn_h2::frames_keep();
+    kn_h2::role_stays();
+    kn_h2::windows_follow();
+    kn_h2::windows_move();
+    kn_h2::written_is_carried();
+    kn_h2::sending_laws();
 }
