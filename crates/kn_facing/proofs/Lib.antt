@@ -18,3 +18,4 @@ pub mod SteadyLemmas
 pub mod StepLemmas
 pub mod SumLemmas
 pub mod TakenLemmas
+pub mod WireLemmas

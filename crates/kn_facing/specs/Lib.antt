@@ -3,4 +3,5 @@ pub mod Facing
 pub mod Laws
 pub mod Sums
 pub mod Faces
+pub mod Wires
 pub mod Taken

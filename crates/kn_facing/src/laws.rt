@@ -1,6 +1,7 @@
 ghost use Rattle.kn_facing.specs.Taken.{DataIsTaken, LastDataIsTaken, RequestIsTaken, ResponseIsTaken, TrailersAreTaken, ResetIsTaken, GrantIsTaken, StreamGrantIsTaken, ClientSettingsAreTaken, ServerSettingsAreTaken, AcknowledgementIsTaken};
 ghost use Rattle.kn_facing.specs.Sums.{FramesTake, FramesGrant, MovesShiftBoth, CallsLeaveBoth};
 ghost use Rattle.kn_facing.specs.Faces.{FacesTurn, FramesKeepFaces, StepsKeepFaces, TakesKeepFaces, TookKeepsFaces, QueuesKeepFaces, FinishesKeepFaces, FacesBegin, MovesKeepFaces, BeginKeepsFaces, AnswerKeepsFaces, EndKeepsFaces, StopKeepsFaces};
+ghost use Rattle.kn_facing.specs.Wires.{WritesBehind, EntersAlike, ReadingKeepsFaces, FacesHaveOneStream};
 ghost use Rattle.kn_facing.specs.Laws.{AcceptsJoin, AcceptsPart, NoFaultBefore, ReadsOn, OwnStepsTake, StaysFollowed, FewAreRead, MoreAreTaken, FramesKeepFollowed};
 
 /// Frames that come behind others are looked at once these were read.
@@ -232,3 +233,32 @@ pub fn ends_keep_faces()
     kn_h2::written_is_carried();
     kn_h2::sending_laws();
 }
+
+/// Frames that one end writes come behind those that are on their way, and what goes on its way changes nothing of
+/// what comes.
+pub fn wires_carry_frames()
+    ensures writes { WritesBehind }
+    ensures enters { EntersAlike }
+{
+    kn_h2_state::written_is_read();
+}
+
+/// Two ends that face each other do so once one has read any number of the frames that are on their way to it; it
+/// answers them with what acknowledges SETTINGS, and with nothing else.
+pub fn reading_keeps_faces()
+    ensures { ReadingKeepsFaces }
+{
+    kn_h2_state::more_is_heard();
+    kn_h2_state::opened_is_above();
+    kn_h2_state::answered_is_kept();
+    kn_h2_state::own_steps_are_heard();
+    kn_h2_state::own_facts_stay();
+    kn_h2::frames_keep();
+    kn_h2::role_stays();
+    kn_h2::windows_follow();
+}
+
+/// Of two ends that face each other neither has failed, and neither has a stream but the first, nor text of another.
+pub fn faces_have_one_stream()
+    ensures { FacesHaveOneStream }
+{}
