@@ -4,4 +4,5 @@ pub mod Laws
 pub mod Sums
 pub mod Faces
 pub mod Wires
+pub mod Pairs
 pub mod Taken

@@ -2,6 +2,7 @@ ghost use Rattle.kn_facing.specs.Taken.{DataIsTaken, LastDataIsTaken, RequestIsT
 ghost use Rattle.kn_facing.specs.Sums.{FramesTake, FramesGrant, MovesShiftBoth, CallsLeaveBoth};
 ghost use Rattle.kn_facing.specs.Faces.{FacesTurn, FramesKeepFaces, StepsKeepFaces, TakesKeepFaces, TookKeepsFaces, QueuesKeepFaces, FinishesKeepFaces, FacesBegin, MovesKeepFaces, BeginKeepsFaces, AnswerKeepsFaces, EndKeepsFaces, StopKeepsFaces};
 ghost use Rattle.kn_facing.specs.Wires.{WritesBehind, EntersAlike, ReadingKeepsFaces, FacesHaveOneStream};
+ghost use Rattle.kn_facing.specs.Pairs.{FacingTurns, FacingBegins, PiecesKeepFacing, EntersKeepFacing, StepsKeepFacing};
 ghost use Rattle.kn_facing.specs.Laws.{AcceptsJoin, AcceptsPart, NoFaultBefore, ReadsOn, OwnStepsTake, StaysFollowed, FewAreRead, MoreAreTaken, FramesKeepFollowed};
 
 /// Frames that come behind others are looked at once these were read.
@@ -262,3 +263,22 @@ pub fn reading_keeps_faces()
 pub fn faces_have_one_stream()
     ensures { FacesHaveOneStream }
 {}
+
+/// Over bytes: a client's end and a server's face each other from the beginning, and go on so where any piece of what
+/// is on its way is delivered, where what waits goes on its way, and after each step of an end's own of which the
+/// other laws say so.
+pub fn facing_goes_on()
+    ensures turns { FacingTurns }
+    ensures begins { FacingBegins }
+    ensures pieces { PiecesKeepFacing }
+    ensures enters { EntersKeepFacing }
+    ensures steps { StepsKeepFacing }
+{
+    faces_begin();
+    calls_keep_faces();
+    wires_carry_frames();
+    reading_keeps_faces();
+    kn_h2_state::written_is_read();
+    kn_h2::calls_are_written();
+    kn_h2::answers_are_written();
+}
