@@ -1,29 +1,25 @@
 -- A server ends its half of a stream, and tells a client that goes on to stop.
-use Rattle.std.proofs.Common.{◌≡◌, ◌≢◌, ◌<◌, ◌≤◌, ◌+◌, ◌*◌, ◌%◌, ◌&&◌, ◌||◌, ℕ, Bool, true, false, not, eqb, nat_lt, nat_le, length, List, [], ◌∷◌, ◌++◌, Option, Some, None, IfSome, Result, Ok, Err, is_some, refl, sym, ap, ◌∙◌, subst, arith, if◌then◌else◌}
+use Rattle.std.proofs.Common.{◌≡◌, ◌≢◌, ◌<◌, ◌%◌, ◌&&◌, ◌||◌, ℕ, Bool, true, false, not, eqb, List, [], ◌∷◌, Option, Some, None, IfSome, Ok, is_some, refl, sym, ap, ◌∙◌, subst, arith, if◌then◌else◌}
 use Rattle.std.specs.Prelude.{◌==◌}
 use Rattle.std.specs.Int.{to_be_bytes, w32}
-use Rattle.std.specs.List.{AllByRecursion}
-use Rattle.std.proofs.lemmas.Bool.{eqb-true, eqb-false, and_parts}
+use Rattle.std.proofs.lemmas.Bool.{eqb-true, eqb-false}
 use Rattle.kn_frames.specs.declared.frame.Frame.{Frame}
 use Rattle.kn_hpack.specs.Fields.{Field}
-use Rattle.kn_hpack.specs.Blocks.{Progress, progress, read_block}
+use Rattle.kn_hpack.specs.Blocks.{progress, read_block}
 use Rattle.kn_hpack.specs.Encoding.{block_of}
-use Rattle.kn_hpack.specs.declared.fault.HpackFault.{HpackFault}
 use Rattle.kn_h2_state.specs.declared.event.H2Event.TheVariants.{Ended}
-use Rattle.kn_h2_state.specs.declared.state.Block.{Block}
 use Rattle.kn_h2_state.specs.declared.moves.Move.{Move}
 use Rattle.kn_h2_state.specs.declared.moves.Move.TheVariants.{End, Stop}
 use Rattle.kn_h2_state.specs.declared.stream.Stream.{Stream}
 use Rattle.kn_h2_state.specs.declared.state.State.{State}
 use Rattle.kn_h2_state.specs.InStep.{no_table, IsInStep, NextIsRead}
-use Rattle.kn_h2_state.specs.Limits.{reply_limit, frame_limit, block_limit}
 use Rattle.kn_h2_state.specs.Outgoing.{reply_bytes}
-use Rattle.kn_h2_state.specs.Payloads.{content, number_at}
+use Rattle.kn_h2_state.specs.Payloads.{number_at}
 use Rattle.kn_h2_state.specs.Streams.{stream_at, change, tidied, is_open, on_open, shut}
-use Rattle.kn_h2_state.specs.Rules.{is_client, is_idle, bytes_so_far, block_with, verdict}
+use Rattle.kn_h2_state.specs.Rules.{is_client}
 use Rattle.kn_h2_state.specs.Effects.{event, on_stream, if_open, block_of_headers, head_of, response, peer_ends, reset_of, cut_off, effect}
 use Rattle.kn_h2_state.specs.Feeding.{judged, after_frame, after_frames}
-use Rattle.kn_h2_state.specs.Moves.{may, can_end, can_stop, made, after_move, own_ended, stopped, end_frames}
+use Rattle.kn_h2_state.specs.Moves.{may, can_end, can_stop, made, after_move, own_ended, end_frames}
 use Rattle.kn_h2_state.specs.Holding.{Holds}
 use Rattle.kn_h2_state.specs.Laws.{seen, seen_at}
 use Rattle.kn_h2_state.specs.Wire.{frame, head_list, end_list, made_frames, move_frames}
@@ -34,11 +30,10 @@ use Rattle.kn_h2_state.proofs.SeenLemmas.{Climbs, at_changed}
 use Rattle.kn_h2.proofs.FoundLemmas.{IsFound, found_open}
 use Rattle.kn_h2.proofs.HoldsLemmas.{replies_same}
 use Rattle.kn_h2.proofs.MoveLemmas.{move_parts, IsEndable, end_parts}
-use Rattle.kn_facing.specs.Facing.{emptied, IsFollowed, Awaits, IsPlain, IsTaken, Fits, AreTaken, asking}
-use Rattle.kn_facing.specs.Faces.{AnswersFirst, IsEnd, Faces, IsOneFrame, EndKeepsFaces, StopKeepsFaces}
-use Rattle.kn_facing.specs.Taken.{IsListening, ReadsBlock, TakesFields}
+use Rattle.kn_facing.specs.Facing.{emptied, IsFollowed, Awaits, IsTaken, AreTaken, asking}
+use Rattle.kn_facing.specs.Faces.{IsOneFrame, EndKeepsFaces, StopKeepsFaces}
 use Rattle.kn_facing.proofs.AheadLemmas.{no_open, is_not_idle, odd_at, not_even}
-use Rattle.kn_facing.proofs.AnswerStep.{Alike, alike, read_head}
+use Rattle.kn_facing.proofs.AnswerStep.{alike, read_head}
 use Rattle.kn_facing.proofs.BeginStep.{after_one, head_frames}
 use Rattle.kn_facing.proofs.FaceLemmas.{Known}
 use Rattle.kn_facing.proofs.FollowedLemmas.{is_known}
@@ -82,8 +77,10 @@ changes_followed s t u v n w server c = record {
   where
     contrary : is_client s.role ≡ true → ⊥
     contrary e = cc
+
     here : is_client u.role ≡ true
     here = w.other ∙ ap not server
+
     half : (m : ℕ) (x y : Stream) → stream_at t.streams m ≡ Some x → x.own_open ≡ true → stream_at v.streams m ≡ Some y → is_open y ≡ true → (b : Bool) → eqb n m ≡ b → y.peer_open ≡ true
     half m x y at own there up true e =
         let same : n ≡ m = eqb-true n m e in
@@ -92,6 +89,7 @@ changes_followed s t u v n w server c = record {
         let other = eqb-false n m e in
         let g = alike y (stream_at u.streams m) (ap seen (sym there) ∙ c.other m other) in
         g.2.peer ∙ w.followed.halves m x g.0 (sym (c.own m other) ∙ at) own g.1 (g.2.up ∙ up)
+
     heads : (m : ℕ) (x y : Stream) → stream_at t.streams m ≡ Some x → stream_at v.streams m ≡ Some y → is_open y ≡ true → (b : Bool) → eqb n m ≡ b → y.answered ≡ x.answered
     heads m x y at there up true e =
         let same : n ≡ m = eqb-true n m e in
@@ -106,6 +104,7 @@ changes_awaits s t u v n w server c client m y low there up = by_test (eqb n m) 
   where
     above : s.opened < m
     above = subst (λ (j : ℕ). j < m) c.opened low
+
     by_test : (b : Bool) → eqb n m ≡ b → (y.peer_open ≡ true) × (y.answered ≡ false)
     by_test true e = absurd (is_known s.opened m s.streams c.here w.own.holds.rising (subst (λ (j : ℕ). stream_at s.streams j ≡ Some c.here) (eqb-true n m e) c.found) above)
     by_test false e =
@@ -147,14 +146,18 @@ is_cut u n holds = by_found (stream_at u.streams n) refl
   where
     f : Frame
     f = reset n
+
     gone_by : (g : Stream → Stream) → ((st : Stream) → (g st).number ≡ st.number) → ((st : Stream) → is_open (g st) ≡ false) → (c : Stream) → stream_at u.streams n ≡ Some c → IsShut (stream_at (tidied (change u.streams n g)) n)
     gone_by g number closes c at = at_tidied IsShut 0 n (change u.streams n g) (λ st k h. tt) (climbs_changed u n g number holds) (subst IsShut (sym (at_changed u.streams n g c number at)) (closes c))
+
     by_kind : (b : Bool) (c : Stream) → stream_at u.streams n ≡ Some c → IsCut u (if b then on_stream n shut (begun u) else cut_off n (number_at f.payload 0) c (begun u)) n
     by_kind true c at = record { began = refl; block = refl; decoder = refl; opened = refl; gone = gone_by shut (λ st. refl) (λ st. refl) c at }
     by_kind false c at = record { began = refl; block = refl; decoder = refl; opened = refl; gone = gone_by cut (λ st. refl) (λ st. refl) c at }
+
     by_open : (b : Bool) (c : Stream) → is_open c ≡ b → stream_at u.streams n ≡ Some c → IsCut u (if b then reset_of f c (begun u) else begun u) n
     by_open true c e at = by_kind (is_client u.role && (number_at f.payload 0 == 0) && not c.peer_open) c at
     by_open false c e at = record { began = refl; block = refl; decoder = refl; opened = refl; gone = subst IsShut (sym at) e }
+
     by_found : (o : Option Stream) → stream_at u.streams n ≡ o → IsCut u (if_open o (begun u) (λ c. reset_of f c (begun u))) n
     by_found None at = record { began = refl; block = refl; decoder = refl; opened = refl; gone = subst IsShut (sym at) tt }
     by_found (Some c) at = by_open (is_open c) c refl at
@@ -191,18 +194,23 @@ stop_taken k s u n w server ok =
   where
     here : (st : Stream) × IsFound s.streams n can_stop st
     here = found_open s.streams n can_stop (move_parts s (Stop n) ok).due
+
     st : Stream
     st = here.0
+
     taken : IsTaken u (reset n)
     taken = record {
       kept = reset_is_taken u n 0 (record { began = w.followed.began; block = w.followed.block }) (not_zero s n st w.own.holds here.1.found) (is_not_idle s u n st w.own.holds w.other w.followed here.1.found);
       plain = record { whole = refl; silent = refl; windows = λ e. absurd cc };
       head = λ e. absurd cc;
     }
+
     to : after_frame u (reset n) ≡ effect (begun u) (reset n)
     to = after_frame-judged u (reset n) w.goes ∙ ap (λ o. judged u (reset n) o) taken.kept
+
     was : IsCut u (effect (begun u) (reset n)) n
     was = is_cut u n w.holds
+
     closed : (y : Stream) → stream_at (after_frame u (reset n)).streams n ≡ Some y → is_open y ≡ true → ⊥
     closed y there up = contrary (subst IsShut (sym (ap (λ (z : State). stream_at z.streams n) to) ∙ there) was.gone)
       where
@@ -256,6 +264,7 @@ as_before u n (Some c) holds at = by_open (is_open c) refl
   where
     contrary : is_open c ≡ false → is_open c ≡ true → ⊥
     contrary a b = cc
+
     by_open : (b : Bool) → is_open c ≡ b → AsBefore u n (stream_at (if b then with_end n u else read_head u).streams n)
     by_open true up =
         at_tidied (AsBefore u n) 0 n (change u.streams n over) (λ st k h. tt) (climbs_changed u n over (λ st. refl) holds)
@@ -329,41 +338,60 @@ end_taken k next s u n w server ok short =
   where
     here : (st : Stream) × IsFound s.streams n can_end st
     here = found_open s.streams n can_end (move_parts s (End n) ok).due
+
     st : Stream
     st = here.0
+
     parts : IsEndable st
     parts = end_parts st here.1.passed
+
     has : (trailers : List Field) × (st.finish ≡ Some trailers)
     has = some_finish st.finish parts.asked
+
     trailers : List Field
     trailers = has.0
+
     one : IsOneFrame s.encoder trailers
     one = short st trailers here.1.found has.1
+
     block : List ℕ
     block = block_of s.encoder trailers
+
     head : Frame
     head = frame 1 5 n block
+
     client : is_client u.role ≡ true
     client = w.other ∙ ap not server
+
     answered : st.answered ≡ true
     answered = by_answer st.answered refl
       where
         contrary : st.finish ≡ None → ⊥
         contrary e = let f : st.finish ≡ Some trailers = has.1 in cc
+
         by_answer : (b : Bool) → st.answered ≡ b → b ≡ true
         by_answer true e = refl
         by_answer false e = absurd (contrary (w.own.first server n st here.1.found e).1)
+
     reads : read_block u.decoder block ≡ Ok (progress no_table trailers)
     reads = next s.encoder u.decoder trailers one.small w.followed.decoder
+
     has_it : (c : Stream) → stream_at u.streams n ≡ Some c → is_open c ≡ true → c.answered ≡ true
     has_it c at up = w.followed.heads client n st c here.1.found at up ∙ answered
+
     none_waits : on_open u.streams n (λ c. not c.answered) ≡ false
     none_waits = no_open u.streams n (λ c. not c.answered) (λ c at up. ap not (has_it c at up))
+
     taken : IsTaken u head
     taken = record {
       kept = trailers_are_taken u n block (record {
-        block = record { listens = record { began = w.followed.began; block = w.followed.block }; odd = not_even (n % 2) (odd_at 0 s.opened n s.streams st w.own.holds.rising here.1.found); small = let fits = one.short in omega (arith, fits);
-            progress = progress no_table trailers; reads = reads };
+        block = record {
+          listens = record { began = w.followed.began; block = w.followed.block };
+          odd = not_even (n % 2) (odd_at 0 s.opened n s.streams st w.own.holds.rising here.1.found);
+          small = let fits = one.short in omega (arith, fits);
+          progress = progress no_table trailers;
+          reads = reads;
+        };
         known = is_not_idle s u n st w.own.holds w.other w.followed here.1.found;
         half = no_open u.streams n (λ c. not c.peer_open) (λ c at up. ap not (w.followed.halves n st c here.1.found parts.own at up));
       });
@@ -373,16 +401,22 @@ end_taken k next s u n w server ok short =
       where
         roles : is_client u.role ≡ true → is_client u.role ≡ false → ⊥
         roles c d = cc
+
         both : on_open u.streams n (λ c. not c.answered) ≡ false → on_open u.streams n (λ c. not c.answered) ≡ true → ⊥
         both c d = cc
+
     v : State
     v = ended_state n u (stream_at u.streams n)
+
     after : after_frame u head ≡ v
     after = after_frame-judged u head w.goes ∙ (ap (λ o. judged u head o) taken.kept ∙ trailed u n block trailers (stream_at u.streams n) refl w.followed.block reads client has_it)
+
     now : Heard u v
     now = heard u n (stream_at u.streams n)
+
     done : Ends s (after_move s (End n)) n st
     done = ends s n st w.own.holds server here.1.found
+
     ended : (x : Stream) → stream_at (after_move s (End n)).streams n ≡ Some x → x.own_open ≡ true → ⊥
     ended x at own = contrary (subst (HasEnded st) at done.gone).0
       where

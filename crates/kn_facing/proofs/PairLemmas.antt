@@ -1,5 +1,5 @@
 -- Two ends of a connection over the bytes between them.
-use Rattle.std.proofs.Common.{◌≡◌, ℕ, Bool, true, false, List, [], ◌∷◌, ◌++◌, take, append_assoc, append-nil, Option, Some, None, is_some, refl, sym, ap, ◌∙◌, subst, if◌then◌else◌}
+use Rattle.std.proofs.Common.{◌≡◌, ℕ, true, false, List, [], ◌∷◌, ◌++◌, append_assoc, append-nil, Option, None, is_some, refl, sym, ap, ◌∙◌, subst, if◌then◌else◌}
 use Rattle.std.specs.List.{AllByRecursion}
 use Rattle.kn_frames.specs.declared.frame.Frame.{Frame}
 use Rattle.kn_frames.specs.declared.fault.FrameFault.{FrameFault}
@@ -8,18 +8,16 @@ use Rattle.kn_frames.specs.Readers.{Reading, in_frames, start, after_byte, frame
 use Rattle.kn_h2_state.specs.declared.role.Role.{Role}
 use Rattle.kn_h2_state.specs.declared.role.Role.TheVariants.{Server, Client}
 use Rattle.kn_h2_state.specs.declared.state.State.{State}
-use Rattle.kn_h2_state.specs.Outgoing.{nothing_out, put}
 use Rattle.kn_h2_state.specs.Feeding.{Connection, after_frames, after_fault, after_piece}
 use Rattle.kn_h2_state.specs.Calls.{opening, fresh_state, fresh, after_took}
 use Rattle.kn_h2_state.specs.Wire.{spellings, IsBetweenFrames, ReadsBack, WrittenIsRead}
 use Rattle.kn_h2_state.proofs.PieceLaws.{bytes-append, frames-append}
 use Rattle.kn_h2.specs.Answered.{frames_answer, fault_answer, piece_answer, PiecesWrite}
-use Rattle.kn_h2.specs.Written.{Writes, opening_list, opening_preface, OpeningIsWritten}
-use Rattle.kn_facing.specs.Ways.{Way, wire, IsWhole, delivered, entered, with_from}
+use Rattle.kn_h2.specs.Written.{Writes, opening_list, OpeningIsWritten}
 use Rattle.kn_facing.specs.Facing.{coming}
 use Rattle.kn_facing.specs.Faces.{Faces, FacesBegin, TookKeepsFaces}
 use Rattle.kn_facing.specs.Wires.{Behind, WritesBehind, all_acknowledged, AfterReading, ReadingKeepsFaces}
-use Rattle.kn_facing.specs.Pairs.{way, Facing, FacingTurns, FacingBegins, PiecesKeepFacing, with_state, EntersKeepFacing, StepsKeepFacing}
+use Rattle.kn_facing.specs.Pairs.{way, FacingTurns, FacingBegins, PiecesKeepFacing, EntersKeepFacing, StepsKeepFacing}
 use Rattle.kn_facing.proofs.FaceLemmas.{turned}
 use Rattle.kn_facing.proofs.FacingLemmas.{no_fault_before, reads_on, piece_on}
 use Rattle.kn_facing.proofs.WireLemmas.{enters_alike}
@@ -65,35 +63,49 @@ pieces_keep_facing behind writes reading a b ab ba piece rest h cut = record {
   where
     on : b.state.failed ≡ None
     on = h.faces.end_b.goes
+
     sound : fault_in (after_bytes b.cutter piece).phase ≡ None
     sound = no_fault_before (way a ab b) piece rest cut h.whole_ab
+
     fs : List Frame
     fs = frames_in b.cutter piece
+
     later : List Frame
     later = coming (way a rest (after_piece b piece))
+
     out : List ℕ
     out = a.state.out.bytes
+
     whole : after_piece b piece ≡ record { cutter = after_bytes b.cutter piece; state = after_fault (after_frames b.state fs) (fault_in (after_bytes b.cutter piece).phase) }
     whole = piece_on b piece on
+
     state : (after_piece b piece).state ≡ after_frames b.state fs
     state = ap (λ (c : Connection). c.state) whole ∙ ap (λ (o : Option FrameFault). after_fault (after_frames b.state fs) o) sound
+
     cutter : (after_piece b piece).cutter ≡ after_bytes b.cutter piece
     cutter = ap (λ (c : Connection). c.cutter) whole
+
     parted : after_bytes b.cutter (ab ++ out) ≡ after_bytes (after_piece b piece).cutter (rest ++ out)
     parted =
         ap (λ (l : List ℕ). after_bytes b.cutter (l ++ out)) cut
         ∙ (ap (λ (l : List ℕ). after_bytes b.cutter l) (append_assoc piece rest out)
         ∙ (bytes-append b.cutter piece (rest ++ out) ∙ ap (λ (r : Reading). after_bytes r (rest ++ out)) (sym cutter)))
+
     split : coming (way a ab b) ≡ fs ++ later
     split = reads_on (way a ab b) piece rest cut on
+
     faces : Faces a.state b.state (fs ++ later) (coming (way b ba a))
     faces = subst (λ (gs : List Frame). Faces a.state b.state gs (coming (way b ba a))) split h.faces
+
     read : AfterReading a.state b.state fs later (coming (way b ba a))
     read = reading a.state b.state fs later (coming (way b ba a)) faces
+
     answer : piece_answer b piece ≡ all_acknowledged fs
     answer = piece_answers b piece on sound ∙ read.answers
+
     wrote : Writes b.state (after_piece b piece).state (piece_answer b piece)
     wrote = writes b piece (λ _. front_limits fs later faces.to_b.limits)
+
     back : Behind (way b ba a) (after_piece b piece).state (piece_answer b piece)
     back = behind (way b ba a) (after_piece b piece).state (piece_answer b piece) h.whole_ba wrote.limits wrote.written
 
@@ -148,9 +160,12 @@ facing_begins read written begins = record {
   where
     client : Opens (start true) Client
     client = client_opens read written
+
     server : Opens (start false) Server
     server = server_opens read written
+
     up : frames_in (start true) (fresh_state Client).out.bytes ≡ opening_list Client
     up = ap (λ (l : List ℕ). frames_in (start true) l) (fresh_out Client) ∙ client.frames
+
     down : frames_in (start false) (fresh_state Server).out.bytes ≡ opening_list Server
     down = ap (λ (l : List ℕ). frames_in (start false) l) (fresh_out Server) ∙ server.frames

@@ -1,12 +1,11 @@
 -- The bytes that are on their way, as frames.
-use Rattle.std.proofs.Common.{◌≡◌, ◌≢◌, ◌<◌, ◌≤◌, ◌+◌, ◌*◌, ◌&&◌, ◌||◌, ℕ, Bool, true, false, not, eqb, nat_lt, nat_le, length, take, drop, List, [], ◌∷◌, ◌++◌, append_assoc, append-nil, Option, Some, None, is_some, Result, Ok, Err, refl, sym, ap, ◌∙◌, subst, arith, if◌then◌else◌}
+use Rattle.std.proofs.Common.{◌≡◌, ◌≢◌, ◌<◌, ◌≤◌, ◌+◌, ◌*◌, ◌&&◌, ◌||◌, ℕ, Bool, true, false, not, nat_lt, nat_le, length, take, drop, List, [], ◌∷◌, ◌++◌, append_assoc, append-nil, Option, Some, None, is_some, Result, Ok, Err, refl, sym, ap, ◌∙◌, subst, arith, if◌then◌else◌}
 use Rattle.std.specs.Prelude.{◌==◌}
-use Rattle.std.specs.List.{AllByRecursion}
 use Rattle.std.proofs.lemmas.Bool.{eqb-true, leb-true, ltb-true, ltb-false}
 use Rattle.std.proofs.lemmas.List.{take-append-drop}
 use Rattle.kn_frames.specs.declared.frame.Frame.{Frame}
-use Rattle.kn_frames.specs.Frames.{IsWithinLimits, head}
-use Rattle.kn_frames.specs.Readers.{Reading, after_bytes, frames_in}
+use Rattle.kn_frames.specs.Frames.{head}
+use Rattle.kn_frames.specs.Readers.{after_bytes, frames_in}
 use Rattle.kn_hpack.specs.Fields.{Field}
 use Rattle.kn_hpack.specs.Blocks.{Progress, read_block}
 use Rattle.kn_hpack.specs.declared.fault.HpackFault.{HpackFault}
@@ -16,21 +15,21 @@ use Rattle.kn_h2_state.specs.Limits.{reply_limit, stream_limit}
 use Rattle.kn_h2_state.specs.Outgoing.{reply_bytes}
 use Rattle.kn_h2_state.specs.Payloads.{has}
 use Rattle.kn_h2_state.specs.Streams.{stream_at, is_open, on_open, passes, open_count}
-use Rattle.kn_h2_state.specs.Heads.{is_malformed_request, is_malformed_response, is_informational}
+use Rattle.kn_h2_state.specs.Heads.{is_malformed_request}
 use Rattle.kn_h2_state.specs.Rules.{is_client, block_with, ends_block, verdict}
 use Rattle.kn_h2_state.specs.Effects.{block_ends}
 use Rattle.kn_h2_state.specs.Feeding.{after_frame, after_frames}
-use Rattle.kn_h2_state.specs.Calls.{text_in, text_of, after_took}
+use Rattle.kn_h2_state.specs.Calls.{text_in, after_took}
 use Rattle.kn_h2_state.specs.Wire.{frame, spellings, WrittenIsRead, ReadsBack, IsBetweenFrames}
 use Rattle.kn_h2_state.proofs.BorneLemmas.{rises, none_above}
 use Rattle.kn_h2_state.proofs.PieceLaws.{bytes-append, frames-append}
 use Rattle.kn_h2_state.proofs.SeenLemmas.{climbs, none_below}
 use Rattle.kn_h2.specs.Answered.{frame_answer, frames_answer, kept_answer, judged_answer, decoded_answer, head_answer, response_answer, response_answer_at, request_answer}
 use Rattle.kn_h2.specs.Written.{replied}
-use Rattle.kn_facing.specs.Ways.{Way, wire, IsWhole, entered, with_from}
+use Rattle.kn_facing.specs.Ways.{Way, wire, entered}
 use Rattle.kn_facing.specs.Facing.{emptied, coming, IsTaken, Fits, IsResponse, AreTaken, asks, asking}
-use Rattle.kn_facing.specs.Faces.{IsEnd, IsSound, Faces, acknowledged, FramesKeepFaces}
-use Rattle.kn_facing.specs.Wires.{Behind, WritesBehind, Same, EntersAlike, all_acknowledged, AfterReading, ReadingKeepsFaces, HasOneStream, FacesHaveOneStream}
+use Rattle.kn_facing.specs.Faces.{IsEnd, Faces, acknowledged}
+use Rattle.kn_facing.specs.Wires.{WritesBehind, EntersAlike, all_acknowledged, ReadingKeepsFaces, HasOneStream, FacesHaveOneStream}
 use Rattle.kn_facing.proofs.CarryLemmas.{hears_left, taken_too}
 use Rattle.kn_facing.proofs.FaceLemmas.{Known}
 use Rattle.kn_facing.proofs.ReadStep.{frames_keep_faces}
@@ -46,8 +45,10 @@ writes_behind read w t fs whole limits written = record {
   where
     back : ReadsBack fs (after_bytes w.to.cutter (wire w))
     back = read fs (after_bytes w.to.cutter (wire w)) limits whole
+
     longer : w.pipe ++ t.out.bytes ≡ wire w ++ spellings fs
     longer = ap (λ (l : List ℕ). w.pipe ++ l) written ∙ sym (append_assoc w.pipe w.from.state.out.bytes (spellings fs))
+
     state : after_bytes w.to.cutter (w.pipe ++ t.out.bytes) ≡ after_bytes (after_bytes w.to.cutter (wire w)) (spellings fs)
     state = ap (λ (l : List ℕ). after_bytes w.to.cutter l) longer ∙ bytes-append w.to.cutter (wire w) (spellings fs)
 
@@ -96,6 +97,7 @@ response_none s n ends fields (Some st) at fits = by_open (is_open st) refl
         let waiting : on_open s.streams n (λ st. not st.answered) ≡ true = ap (λ (o : Option Stream). passes (λ st. not st.answered) o) at ∙ (ap (λ (c : Bool). c && not st.answered) up ∙ ap not e) in
         let r = fits waiting in
         rw (e, r.last, r.formed) refl
+
     by_open : (b : Bool) → is_open st ≡ b → (if b then response_answer n ends fields st s else []) ≡ []
     by_open true up = by_head st.answered refl up
     by_open false up = refl
@@ -141,15 +143,17 @@ unfolding kept_answer
 kept_is s f h low room =
     chosen (acknowledged f) ((f.kind == 1) || (f.kind == 9)) _ _
     (λ e. let one : (f.kind == 1) ≡ true = first_kind (f.kind == 1) (f.kind == 9) e h.plain.whole in
-        either_none (ends_block f) (decoded_answer f.stream (block_ends s.block f) s (read_block s.decoder (block_with s f))) [] (decoded_none s f (read_block s.decoder (block_with s f)) (λ p r. h.head one p r) low) refl
-        ∙ sym (none_acked (ap (λ (k : ℕ). k == 4) (eqb-true f.kind 1 one))))
+    either_none (ends_block f) (decoded_answer f.stream (block_ends s.block f) s (read_block s.decoder (block_with s f))) [] (decoded_none s f (read_block s.decoder (block_with s f)) (λ p r. h.head one p r) low) refl
+    ∙ sym (none_acked (ap (λ (k : ℕ). k == 4) (eqb-true f.kind 1 one))))
     (λ _. chosen (acknowledged f) (f.kind == 4) _ _ (λ e. by_flag e (has f 1) refl)
     (λ e. silent ∙ sym (none_acked e)))
   where
     silent : (if f.kind == 6 then (if has f 1 then [] else replied s (frame 6 1 0 f.payload ∷ [])) else []) ≡ []
     silent = ap (λ (b : Bool). if b then (if has f 1 then [] else replied s (frame 6 1 0 f.payload ∷ [])) else []) h.plain.silent
+
     none_acked : (f.kind == 4) ≡ false → acknowledged f ≡ []
     none_acked e = ap (λ (b : Bool). if b && not (has f 1) then ack ∷ [] else []) e
+
     by_flag : (f.kind == 4) ≡ true → (b : Bool) → has f 1 ≡ b → (if b then [] else replied s (ack ∷ [])) ≡ acknowledged f
     by_flag e true g = sym (ap (λ (b : Bool). if b && not (has f 1) then ack ∷ [] else []) e ∙ ap (λ (b : Bool). if not b then ack ∷ [] else []) g)
     by_flag e false g = acked s (room e g) ∙ sym (ap (λ (b : Bool). if b && not (has f 1) then ack ∷ [] else []) e ∙ ap (λ (b : Bool). if not b then ack ∷ [] else []) g)
