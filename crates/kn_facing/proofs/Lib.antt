@@ -10,6 +10,7 @@ pub mod ListSums
 pub mod MoveStep
 pub mod MoveTaken
 pub mod OwnSumLemmas
+pub mod OpenLemmas
 pub mod PairLemmas
 pub mod ReadLemmas
 pub mod ReadStep

@@ -1,5 +1,5 @@
 -- The bytes that are on their way, as frames, through the steps of both ends.
-use Rattle.std.specs.Prelude.{◌≡◌, ◌≢◌, ℕ, List, [], ◌∷◌, ◌++◌, None}
+use Rattle.std.specs.Prelude.{◌≡◌, ◌≢◌, ℕ, ◌+◌, ◌*◌, ◌≤◌, true, List, [], ◌∷◌, ◌++◌, None}
 use Rattle.std.specs.List.{AllByRecursion}
 use Rattle.kn_frames.specs.declared.frame.Frame.{Frame}
 use Rattle.kn_frames.specs.Frames.{IsWithinLimits}
@@ -7,10 +7,14 @@ use Rattle.kn_h2_state.specs.declared.state.State.{State}
 use Rattle.kn_h2_state.specs.Streams.{stream_at}
 use Rattle.kn_h2_state.specs.Feeding.{after_frames}
 use Rattle.kn_h2_state.specs.Calls.{text_of}
-use Rattle.kn_h2_state.specs.Wire.{spellings}
+use Rattle.kn_h2_state.specs.Wire.{spellings, ends_in}
+use Rattle.kn_h2_state.specs.Limits.{reply_limit}
+use Rattle.kn_h2_state.specs.Outgoing.{reply_bytes}
+use Rattle.kn_h2_state.specs.Holding.{Holds}
+use Rattle.kn_h2_state.specs.Hearing.{is_peer_open, StaysOpen}
 use Rattle.kn_h2.specs.Answered.{frames_answer}
 use Rattle.kn_facing.specs.Ways.{Way, IsWhole, entered, with_from}
-use Rattle.kn_facing.specs.Facing.{coming}
+use Rattle.kn_facing.specs.Facing.{coming, AreTaken, asking}
 use Rattle.kn_facing.specs.Faces.{Faces, acknowledged}
 
 -- frames that the one end writes come behind those that are on their way
@@ -55,3 +59,8 @@ pub record HasOneStream (s : State) : Type 0 where
 
 abbrev pub FacesHaveOneStream : Type 0
 FacesHaveOneStream = (a b : State) (ab ba : List Frame) → Faces a b ab ba → HasOneStream a × HasOneStream b
+
+-- Frames that are taken, none of which ends the stream, leave its half open.
+abbrev pub HalvesStayOpen : Type 0
+HalvesStayOpen = (n : ℕ) (s : State) (fs : List Frame) → Holds s → s.failed ≡ None → AllByRecursion IsWithinLimits fs → AreTaken s fs → reply_bytes s.out + 17 * asking fs ≤ reply_limit
+    → is_peer_open n s ≡ true → ends_in n fs ≡ 0 → StaysOpen n s fs

@@ -1,7 +1,7 @@
 ghost use Rattle.kn_facing.specs.Taken.{DataIsTaken, LastDataIsTaken, RequestIsTaken, ResponseIsTaken, TrailersAreTaken, ResetIsTaken, GrantIsTaken, StreamGrantIsTaken, ClientSettingsAreTaken, ServerSettingsAreTaken, AcknowledgementIsTaken};
 ghost use Rattle.kn_facing.specs.Sums.{FramesTake, FramesGrant, MovesShiftBoth, CallsLeaveBoth};
 ghost use Rattle.kn_facing.specs.Faces.{FacesTurn, FramesKeepFaces, StepsKeepFaces, TakesKeepFaces, TookKeepsFaces, QueuesKeepFaces, FinishesKeepFaces, FacesBegin, MovesKeepFaces, BeginKeepsFaces, AnswerKeepsFaces, EndKeepsFaces, StopKeepsFaces};
-ghost use Rattle.kn_facing.specs.Wires.{WritesBehind, EntersAlike, ReadingKeepsFaces, FacesHaveOneStream};
+ghost use Rattle.kn_facing.specs.Wires.{WritesBehind, EntersAlike, ReadingKeepsFaces, FacesHaveOneStream, HalvesStayOpen};
 ghost use Rattle.kn_facing.specs.Pairs.{FacingTurns, FacingBegins, PiecesKeepFacing, EntersKeepFacing, StepsKeepFacing};
 ghost use Rattle.kn_facing.specs.Laws.{AcceptsJoin, AcceptsPart, NoFaultBefore, ReadsOn, OwnStepsTake, StaysFollowed, FewAreRead, MoreAreTaken, FramesKeepFollowed};
 
@@ -281,4 +281,11 @@ pub fn facing_goes_on()
     kn_h2_state::written_is_read();
     kn_h2::calls_are_written();
     kn_h2::answers_are_written();
+}
+
+/// Frames that are taken, none of which ends a stream, leave the peer's half of it open.
+pub fn halves_stay_open()
+    ensures { HalvesStayOpen }
+{
+    kn_h2::frames_keep();
 }
