@@ -1,8 +1,8 @@
 -- A half stays open through frames that do not end it.
-use Rattle.std.proofs.Common.{◌≡◌, ◌≢◌, ◌<◌, ◌≤◌, ◌+◌, ◌*◌, ◌+ℤ◌, pos, ◌&&◌, ◌||◌, ℕ, Bool, true, false, not, eqb, nat_lt, nat_le, length, List, [], ◌∷◌, ◌++◌, Option, Some, None, IfSome, is_some, Result, Ok, Err, refl, sym, ap, ◌∙◌, subst, arith, if◌then◌else◌}
+use Rattle.std.proofs.Common.{◌≡◌, ◌+◌, ◌+ℤ◌, pos, ◌&&◌, ◌||◌, ℕ, Bool, true, false, not, eqb, nat_le, length, List, [], ◌∷◌, ◌++◌, Option, Some, None, is_some, Result, Ok, Err, refl, sym, ap, ◌∙◌, subst, arith, if◌then◌else◌}
 use Rattle.std.specs.Prelude.{◌==◌, is_none}
 use Rattle.std.specs.List.{AllByRecursion}
-use Rattle.std.proofs.lemmas.Bool.{eqb-true, eqb-false, ltb-true}
+use Rattle.std.proofs.lemmas.Bool.{eqb-true, eqb-false}
 use Rattle.kn_frames.specs.declared.frame.Frame.{Frame}
 use Rattle.kn_frames.specs.Frames.{IsWithinLimits}
 use Rattle.kn_hpack.specs.Fields.{Field}
@@ -12,27 +12,28 @@ use Rattle.kn_h2_state.specs.declared.event.H2Event.TheVariants.{Head, Text}
 use Rattle.kn_h2_state.specs.declared.state.Block.{Block}
 use Rattle.kn_h2_state.specs.declared.stream.Stream.{Stream}
 use Rattle.kn_h2_state.specs.declared.state.State.{State}
-use Rattle.kn_h2_state.specs.Limits.{reply_limit}
-use Rattle.kn_h2_state.specs.Outgoing.{reply_bytes}
 use Rattle.kn_h2_state.specs.Payloads.{has, content, increment_of}
-use Rattle.kn_h2_state.specs.Streams.{stream_at, change, tidied, is_open, is_kept, on_open, passes}
+use Rattle.kn_h2_state.specs.Streams.{stream_at, change, is_open, is_kept, on_open, passes}
 use Rattle.kn_h2_state.specs.Heads.{is_malformed_response, is_informational}
-use Rattle.kn_h2_state.specs.Rules.{is_client, continues, block_with, ends_block, is_second_head, block_rules, breaks_block, verdict}
-use Rattle.kn_h2_state.specs.Effects.{event, on_stream, if_open, with_text, text_told, ended_if, data_taken, data_in, data_dropped, data_of, request, response, headed, refused_response, peer_ends, head_of, decoded, block_ends, block_grown, block_of_headers, reset_of, settings, ping, goaway, with_grant, window_update, effect}
+use Rattle.kn_h2_state.specs.Rules.{is_client, continues, block_with, ends_block, is_second_head, block_rules}
+use Rattle.kn_h2_state.specs.Effects.{event, on_stream, if_open, with_text, text_told, ended_if, data_taken, data_in, data_dropped, data_of, response, headed, head_of, decoded, block_ends, block_grown, block_of_headers, reset_of, settings, ping, goaway, with_grant, window_update, effect}
 use Rattle.kn_h2_state.specs.Feeding.{judged, after_frame, after_frames}
 use Rattle.kn_h2_state.specs.Holding.{Holds}
-use Rattle.kn_h2_state.specs.Hearing.{is_peer_open, is_reset_of, StaysOpen}
-use Rattle.kn_h2_state.specs.Laws.{Seen, seen, seen_at}
+use Rattle.kn_h2_state.specs.Hearing.{StaysOpen}
+use Rattle.kn_h2_state.specs.Laws.{Seen, seen}
 use Rattle.kn_h2_state.specs.Wire.{is_end, ends_in}
-use Rattle.kn_h2_state.proofs.BorneLemmas.{Rises, rises, climbing, rises_change, none_above, at_change, at_tidied, grant_number}
-use Rattle.kn_h2_state.proofs.OtherLaws.{either, alike_all_settings, same_ping, same_goaway, frames_leave_others}
+use Rattle.kn_h2_state.proofs.BorneLemmas.{Rises, rises, climbing, rises_change, at_change, at_tidied, grant_number}
+use Rattle.kn_h2_state.proofs.OtherLaws.{either, alike_all_settings, same_ping, frames_leave_others}
 use Rattle.kn_h2_state.proofs.PieceLaws.{after_frame-judged}
 use Rattle.kn_h2_state.proofs.PreorderLaws.{silent}
 use Rattle.kn_h2_state.proofs.VerdictFacts.{none_holds}
-use Rattle.kn_h2.proofs.FoundLemmas.{IsFound, found_open}
 use Rattle.kn_h2.proofs.RuleLemmas.{passes_rules}
-use Rattle.kn_facing.specs.Facing.{IsTaken, Fits, AreTaken, asks, asking}
-use Rattle.kn_facing.specs.Wires.{HalvesStayOpen}
+use Rattle.kn_facing.specs.Facing.{emptied, IsTaken, Fits, AreTaken, asks, asking}
+use Rattle.kn_facing.specs.Wires.{HalvesStayOpen, FacesKeepHalves}
+use Rattle.kn_facing.proofs.CarryLemmas.{hears_left}
+use Rattle.kn_facing.proofs.FaceLemmas.{Known, turned, way_taken}
+use Rattle.kn_facing.proofs.ListSums.{asking-append}
+use Rattle.kn_facing.proofs.StepLemmas.{back_before}
 use Rattle.kn_facing.proofs.RoomLemmas.{Replied, most, few_replies, Keeps}
 
 -- the stream is there, and its peer's half open
@@ -101,6 +102,7 @@ data_half f s n (Some st) none h =
   where
     P : State → Type 0
     P t = HasHalf (stream_at t.streams n)
+
     one : HasHalf (stream_at (change s.streams f.stream (with_text (length f.payload) (content f))) n)
     one = at_change HasHalf s.streams f.stream n (with_text (length f.payload) (content f)) (λ x. refl) (λ x q. q) h
 
@@ -115,18 +117,23 @@ head_half s n fields holds h first fits = by_found (stream_at s.streams n) refl 
   where
     P : State → Type 0
     P t = HasHalf (stream_at t.streams n)
+
     opened : (st : Stream) → st.peer_open ≡ true → is_open st ≡ true
     opened st e = ap (λ (b : Bool). b || st.own_open) e
+
     contrary : true ≡ false → ⊥
     contrary e = cc
+
     by_found : (o : Option Stream) → stream_at s.streams n ≡ o → HasHalf o → HasHalf (stream_at (head_of n false fields s).streams n)
     by_found None at q = absurd q
     by_found (Some st) at q = by_role (is_client s.role) refl
       where
         up : is_open st ≡ true
         up = opened st q
+
         test : (not (is_client s.role) || st.answered) ≡ false
         test = sym (ap (λ (b : Bool). b && (not (is_client s.role) || st.answered)) up) ∙ (sym (ap (λ (o : Option Stream). passes (λ st. not (is_client s.role) || st.answered) o) at) ∙ first)
+
         by_role : (c : Bool) → is_client s.role ≡ c → HasHalf (stream_at (head_of n false fields s).streams n)
         by_role false server = absurd (contrary (sym (ap (λ (b : Bool). not b || st.answered) server) ∙ test))
         by_role true client =
@@ -196,10 +203,13 @@ effect_half s f holds taken goes_on h =
   where
     v : State
     v = record s { began = true }
+
     P : State → Type 0
     P t = HasHalf (stream_at t.streams f.stream)
+
     contrary : (f.kind == 3) ≡ true → (f.kind == 3) ≡ false → ⊥
     contrary a b = cc
+
     by_block : (f.kind == 1) ≡ true → P (block_of_headers f v)
     by_block one =
         let flag : has f 1 ≡ false = two_right (nat_le f.kind 1) (has f 1) (f.kind == 3) goes_on (ap (λ (k : ℕ). nat_le k 1) (eqb-true f.kind 1 one)) in
@@ -217,6 +227,7 @@ frame_half s f n holds on taken goes_on h = by_test (eqb f.stream n) refl
   where
     to : after_frame s f ≡ effect (record s { began = true }) f
     to = after_frame-judged s f on ∙ ap (λ o. judged s f o) taken.kept
+
     by_test : (b : Bool) → eqb f.stream n ≡ b → HasHalf (stream_at (after_frame s f).streams n)
     by_test false e = seen_half (stream_at (after_frame s f).streams n) (stream_at s.streams n) (frames_leave_others s f n holds (eqb-false f.stream n e)) h
     by_test true e =
@@ -249,6 +260,29 @@ halves_stay_open keep n s (f ∷ fs) holds on limits taken room half none =
     let first : Replied (most (asks f)) s (after_frame s f) = few_replies s f on taken.0.kept (omega (arith, room)) in
     let few = first.few in
     let goes_on : is_end n f ≡ false = none_ends (is_end n f) (ends_in n fs) none in
-    let next = frame_half s f n holds on taken.0 goes_on (half_of (stream_at s.streams n) half) in
-    (half, no_reset (f.stream == n) (nat_le f.kind 1 && has f 1) (f.kind == 3) goes_on,
-     halves_stay_open keep n (after_frame s f) fs (keep s f holds limits.0) first.goes limits.1 taken.1 (omega (arith, room, few)) (half_is (stream_at (after_frame s f).streams n) next) (rest_ends (is_end n f) (ends_in n fs) none))
+    let next = frame_half s f n holds on taken.0 goes_on (half_of (stream_at s.streams n) half) in (
+      half,
+      no_reset (f.stream == n) (nat_le f.kind 1 && has f 1) (f.kind == 3) goes_on,
+      halves_stay_open keep n (after_frame s f) fs (keep s f holds limits.0) first.goes limits.1 taken.1 (omega (arith, room, few)) (half_is (stream_at (after_frame s f).streams n) next) (rest_ends (is_end n f) (ends_in n fs) none),
+    )
+
+-- ---- two ends that face each other
+
+taken_front : (s : State) (fs gs : List Frame) → AreTaken s (fs ++ gs) → AreTaken s fs
+unfolding AreTaken
+taken_front s [] gs h = tt
+taken_front s (f ∷ fs) gs h = (h.0, taken_front (after_frame s f) fs gs h.1)
+
+front_limits : (fs gs : List Frame) → AllByRecursion IsWithinLimits (fs ++ gs) → AllByRecursion IsWithinLimits fs
+front_limits [] gs h = tt
+front_limits (f ∷ fs) gs h = (h.0, front_limits fs gs h.1)
+
+pub faces_keep_halves : Known → FacesKeepHalves
+faces_keep_halves k a b fs ab ba n h half none =
+    let other = turned a b (fs ++ ab) ba h in
+    let e = h.end_b in
+    let hears = hears_left b b (k.steps b e.holds e.facts.known).none in
+    let all = h.to_b.replies in
+    let too = way_taken k a (emptied b) b (fs ++ ab) h.end_a.one (back_before b a ba (fs ++ ab) other) e.holds e.goes hears (omega (arith, all)) in
+    let parts = asking-append fs ab in
+    halves_stay_open k.keep n b fs e.holds e.goes (front_limits fs ab h.to_b.limits) (taken_front b fs ab too.taken) (omega (arith, all, parts)) half none

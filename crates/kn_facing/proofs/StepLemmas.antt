@@ -49,7 +49,7 @@ all_comes_sum x y y' g dd gg gg' e k f = omega (arith, ints, e, k, f)
 
 -- ---- what comes to the end that does a step
 
-back_before : (a b : State) (ab ba : List Frame) → Faces a b ab ba → Before b (emptied a) ba
+pub back_before : (a b : State) (ab ba : List Frame) → Faces a b ab ba → Before b (emptied a) ba
 back_before a b ab ba h = record {
   holds = holds_emptied a h.end_a.holds;
   goes = h.end_a.goes;

@@ -64,3 +64,7 @@ FacesHaveOneStream = (a b : State) (ab ba : List Frame) → Faces a b ab ba → 
 abbrev pub HalvesStayOpen : Type 0
 HalvesStayOpen = (n : ℕ) (s : State) (fs : List Frame) → Holds s → s.failed ≡ None → AllByRecursion IsWithinLimits fs → AreTaken s fs → reply_bytes s.out + 17 * asking fs ≤ reply_limit
     → is_peer_open n s ≡ true → ends_in n fs ≡ 0 → StaysOpen n s fs
+
+-- So do the first frames on their way between two ends that face each other.
+abbrev pub FacesKeepHalves : Type 0
+FacesKeepHalves = (a b : State) (fs ab ba : List Frame) (n : ℕ) → Faces a b (fs ++ ab) ba → is_peer_open n b ≡ true → ends_in n fs ≡ 0 → StaysOpen n b fs
