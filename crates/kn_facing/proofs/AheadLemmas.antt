@@ -1,6 +1,6 @@
 -- The windows of an end once it has read what is on its way, and what its peer may write then.
-use Rattle.std.proofs.Common.{◌≡◌, ◌⊎◌, inl, inr, ◌<◌, ◌≤◌, ◌+◌, ◌*◌, ◌%◌, ℤ, pos, ◌+ℤ◌, ◌-ℤ◌, ◌≤ℤ◌, ◌&&◌, ◌||◌, ℕ, Bool, true, false, not, eqb, nat_lt, length, List, [], ◌∷◌, Option, Some, None, IfSome, refl, sym, ap, ◌∙◌, subst, arith, if◌then◌else◌}
-use Rattle.std.specs.Prelude.{◌==◌, int_le}
+use Rattle.std.proofs.Common.{◌≡◌, ◌<◌, ◌≤◌, ◌+◌, ◌*◌, ◌%◌, ℤ, pos, ◌+ℤ◌, ◌-ℤ◌, ◌≤ℤ◌, ◌&&◌, ◌||◌, ℕ, Bool, true, false, not, eqb, nat_lt, length, List, [], ◌∷◌, Option, Some, None, IfSome, refl, sym, ap, ◌∙◌, subst, arith, if◌then◌else◌}
+use Rattle.std.specs.Prelude.{◌==◌}
 use Rattle.std.specs.List.{AllByRecursion}
 use Rattle.std.proofs.lemmas.Int.{ints}
 use Rattle.std.proofs.lemmas.Bool.{ltb-true, ltb-false, eqb-true}
@@ -170,6 +170,7 @@ is_not_idle s u n st holds other h at =
         by_test : (b : Bool) → nat_lt s.opened n ≡ b → n ≤ s.opened
         by_test true e = absurd (is_known s.opened n s.streams st holds.rising at (ltb-true s.opened n e))
         by_test false e = ltb-false s.opened n e
+
     by_role : (c : Bool) → is_client s.role ≡ c → n ≤ u.opened
     by_role true e = let same = h.opened e in let k = known in omega (arith, same, k)
     by_role false e = let low = h.begun (other ∙ ap not e) in let k = known in omega (arith, low, k)

@@ -1,7 +1,6 @@
 -- A server answers a stream.
-use Rattle.std.proofs.Common.{◌≡◌, ◌≢◌, ◌<◌, ◌≤◌, ◌+◌, ◌*◌, ◌%◌, ℤ, pos, ◌+ℤ◌, ◌-ℤ◌, ◌&&◌, ◌||◌, ℕ, Bool, true, false, not, eqb, nat_lt, nat_le, length, List, [], ◌∷◌, ◌++◌, Option, Some, None, IfSome, Result, Ok, Err, refl, sym, ap, ◌∙◌, subst, arith, if◌then◌else◌}
-use Rattle.std.specs.Prelude.{◌==◌, is_none}
-use Rattle.std.specs.List.{AllByRecursion}
+use Rattle.std.proofs.Common.{◌≡◌, ◌≢◌, ◌<◌, ◌≤◌, ◌+◌, ◌*◌, ◌%◌, ℤ, pos, ◌+ℤ◌, ◌-ℤ◌, ◌&&◌, ◌||◌, ℕ, Bool, true, false, not, eqb, nat_lt, length, List, [], ◌∷◌, ◌++◌, Option, Some, None, IfSome, Result, Ok, Err, refl, sym, ap, ◌∙◌, subst, arith, if◌then◌else◌}
+use Rattle.std.specs.Prelude.{is_none}
 use Rattle.std.proofs.lemmas.Int.{ints}
 use Rattle.std.proofs.lemmas.Bool.{eqb-true, eqb-false, and_parts, ltb-true}
 use Rattle.kn_frames.specs.declared.frame.Frame.{Frame}
@@ -14,13 +13,13 @@ use Rattle.kn_h2_state.specs.declared.state.Block.{Block}
 use Rattle.kn_h2_state.specs.declared.stream.Stream.{Stream}
 use Rattle.kn_h2_state.specs.declared.state.State.{State}
 use Rattle.kn_h2_state.specs.InStep.{no_table, IsInStep, NextIsRead}
-use Rattle.kn_h2_state.specs.Limits.{reply_limit, frame_limit, block_limit}
+use Rattle.kn_h2_state.specs.Limits.{reply_limit}
 use Rattle.kn_h2_state.specs.Outgoing.{put, reply_bytes}
 use Rattle.kn_h2_state.specs.Payloads.{content}
-use Rattle.kn_h2_state.specs.Streams.{stream_at, change, tidied, is_open, is_kept, on_open, passes}
+use Rattle.kn_h2_state.specs.Streams.{stream_at, change, tidied, is_open, on_open, passes}
 use Rattle.kn_h2_state.specs.Heads.{is_malformed_response, is_informational}
-use Rattle.kn_h2_state.specs.Rules.{is_client, is_idle, bytes_so_far, block_with, verdict}
-use Rattle.kn_h2_state.specs.Effects.{event, reply, fail, on_stream, if_open, block_of_headers, head_of, response, headed, effect}
+use Rattle.kn_h2_state.specs.Rules.{is_client, bytes_so_far, block_with}
+use Rattle.kn_h2_state.specs.Effects.{event, reply, block_of_headers, head_of, response, headed, effect}
 use Rattle.kn_h2_state.specs.Feeding.{judged, after_frame, after_frames}
 use Rattle.kn_h2_state.specs.Moves.{headers_frames}
 use Rattle.kn_h2_state.specs.Calls.{refusal, refused_where, takes_more, after_answer}
@@ -35,10 +34,9 @@ use Rattle.kn_h2_state.proofs.SeenLemmas.{at_changed}
 use Rattle.kn_h2.proofs.AnswerLemmas.{holds_answer, number_of_call}
 use Rattle.kn_h2.proofs.FoundLemmas.{IsFound, found_open}
 use Rattle.kn_h2.proofs.HoldsLemmas.{replies_more}
-use Rattle.kn_facing.specs.Facing.{emptied, IsFollowed, Awaits, IsPlain, IsTaken, IsResponse, Fits, AreTaken, asking}
+use Rattle.kn_facing.specs.Facing.{emptied, IsFollowed, Awaits, IsTaken, asking}
 use Rattle.kn_facing.specs.Sums.{MayCome, MayGo}
-use Rattle.kn_facing.specs.Faces.{all_lengths, AnswersFirst, IsEnd, Faces, IsStep, IsOneFrame, AnswerKeepsFaces}
-use Rattle.kn_facing.specs.Taken.{IsListening, ReadsBlock, TakesFields}
+use Rattle.kn_facing.specs.Faces.{all_lengths, AnswersFirst, Faces, IsStep, AnswerKeepsFaces}
 use Rattle.kn_facing.proofs.AheadLemmas.{no_open, is_not_idle, odd_at, not_even}
 use Rattle.kn_facing.proofs.BeginStep.{after_one, head_frames}
 use Rattle.kn_facing.proofs.FaceLemmas.{Known}
@@ -70,7 +68,7 @@ is_answered n fields a room = rw (not_flooded reply_limit (reply_bytes a.out + l
 
 -- ---- the client's side
 
-abbrev read_head : State → State
+abbrev pub read_head : State → State
 read_head u = record u { began = true; block = None; decoder = no_table }
 
 abbrev with_head : ℕ → List Field → State → State
@@ -102,6 +100,7 @@ has_head u n fields (Some c) holds at = by_open (is_open c) refl
   where
     contrary : is_open c ≡ false → is_open c ≡ true → ⊥
     contrary a b = cc
+
     by_open : (b : Bool) → is_open c ≡ b → HasHead u n (stream_at (if b then with_head n fields u else read_head u).streams n)
     by_open true up =
         at_tidied (HasHead u n) 0 n (change u.streams n mark) (λ st k h. tt)
@@ -125,10 +124,10 @@ heard u n fields (Some c) = by_open (is_open c)
     by_open false = record { role = refl; began = refl; block = refl; decoder = refl; opened = refl }
 
 -- a stream that is seen alike
-record Alike (y c : Stream) : Type 0 where
-  up : is_open c ≡ is_open y
-  peer : y.peer_open ≡ c.peer_open
-  head : y.answered ≡ c.answered
+pub record Alike (y c : Stream) : Type 0 where
+  pub up : is_open c ≡ is_open y
+  pub peer : y.peer_open ≡ c.peer_open
+  pub head : y.answered ≡ c.answered
 
 peer_of : Option Seen → Bool
 peer_of None = true
@@ -142,7 +141,7 @@ head_of_seen : Option Seen → Bool
 head_of_seen None = true
 head_of_seen (Some s) = s.answered
 
-alike : (y : Stream) (o : Option Stream) → seen (Some y) ≡ seen o → (c : Stream) × (o ≡ Some c) × Alike y c
+pub alike : (y : Stream) (o : Option Stream) → seen (Some y) ≡ seen o → (c : Stream) × (o ≡ Some c) × Alike y c
 unfolding peer_of own_of head_of_seen
 alike y None e = let gone : seen (Some y) ≡ None = e in absurd cc
 alike y (Some c) e =
@@ -190,47 +189,69 @@ answer_keeps_faces k next a b ab ba n fields h server fits first answer one room
   where
     block : List ℕ
     block = block_of a.encoder fields
+
     head : Frame
     head = frame 1 4 n block
+
     t : State
     t = after_answer n fields a
+
     is_t : t ≡ answered_state n fields a
     is_t = is_answered n fields a (omega (arith, room))
+
     u : State
     u = after_frames (emptied b) ab
+
     w : Knows a u
     w = knows k a b ab ba h
+
     frames : head_list n 0 block ≡ head ∷ []
     frames = head_frames n 0 block one.short
+
     client : is_client u.role ≡ true
     client = w.other ∙ ap not server
+
     here : (st : Stream) × IsFound a.streams n takes_more st
     here = found_open a.streams n takes_more (takes_parts a n fits)
+
     st : Stream
     st = here.0
+
     own : st.own_open ≡ true
     own = (and_parts st.own_open (is_none st.finish) here.1.passed).0
+
     unanswered : st.answered ≡ false
     unanswered = by_answer st.answered refl
       where
         test : (is_open st && st.answered) ≡ false
         test = ap (λ (o : Option Stream). passes (λ x. x.answered) o) (sym here.1.found) ∙ first
+
         by_answer : (b : Bool) → st.answered ≡ b → b ≡ false
         by_answer false e = refl
         by_answer true e = sym (ap (λ (b : Bool). b && st.answered) here.1.opened ∙ e) ∙ test
+
     reads : read_block u.decoder block ≡ Ok (progress no_table fields)
     reads = next a.encoder u.decoder fields one.small w.followed.decoder
+
     whole : block_with u head ≡ block
     whole = ap (λ (o : Option Block). bytes_so_far o ++ content head) w.followed.block ∙ content_is n block
+
     result : (p : Progress) → read_block u.decoder (block_with u head) ≡ Ok p → read_block u.decoder block ≡ Ok p
     result p e = ap (λ (l : List ℕ). read_block u.decoder l) (sym whole) ∙ e
+
     waits : (c : Stream) → stream_at u.streams n ≡ Some c → is_open c ≡ true → c.answered ≡ false
     waits c at up = w.followed.heads client n st c here.1.found at up ∙ unanswered
+
     taken : IsTaken u head
     taken = record {
       kept = response_is_taken u n block (record {
-        block = record { listens = record { began = w.followed.began; block = w.followed.block }; odd = not_even (n % 2) (odd_at 0 a.opened n a.streams st h.end_a.holds.rising here.1.found); small = let short = one.short in omega (arith, short);
-            progress = progress no_table fields; reads = reads };
+        block = record {
+          listens = record { began = w.followed.began; block = w.followed.block };
+          odd = not_even (n % 2) (odd_at 0 a.opened n a.streams st h.end_a.holds.rising here.1.found);
+          small = let short = one.short in omega (arith, short);
+          progress = progress no_table fields;
+          reads = reads;
+        };
         known = is_not_idle a u n st h.end_a.holds w.other w.followed here.1.found;
         half = no_open u.streams n (λ c. not c.peer_open) (λ c at up. ap not (w.followed.halves n st c here.1.found own at up));
       }) client (no_open u.streams n (λ c. c.answered) waits);
@@ -243,23 +264,31 @@ answer_keeps_faces k next a b ab ba n fields h server fits first answer one room
       where
         contrary : is_client u.role ≡ true → is_client u.role ≡ false → ⊥
         contrary c d = cc
+
     v : State
     v = headed_state n fields u (stream_at u.streams n)
+
     after : after_frame u head ≡ v
     after =
         after_frame-judged u head w.goes
         ∙ (ap (λ o. judged u head o) taken.kept
         ∙ answered_head u n block fields (stream_at u.streams n) refl w.followed.block reads client answer.formed answer.last waits)
+
     others : (m : ℕ) → n ≢ m → seen_at v m ≡ seen_at u m
     others m other = ap (λ (z : State). seen_at z m) (sym after) ∙ frames_leave_others u head m w.holds other
+
     at_t : stream_at t.streams n ≡ Some (mark st)
     at_t = ap (λ (z : State). stream_at z.streams n) is_t ∙ at_changed a.streams n mark st (λ x. refl) here.1.found
+
     others_t : (m : ℕ) → n ≢ m → stream_at t.streams m ≡ stream_at a.streams m
     others_t m other = (calls_leave_others a n m h.end_a.holds other).answer fields
+
     now : Heard u v
     now = heard u n fields (stream_at u.streams n)
+
     head_there : (y : Stream) → stream_at v.streams n ≡ Some y → is_open y ≡ true → (c : Stream) × (stream_at u.streams n ≡ Some c) × (is_open c ≡ true) × (y.peer_open ≡ c.peer_open) × (y.answered ≡ true)
     head_there y there up = subst (HasHead u n) there (has_head u n fields (stream_at u.streams n) w.holds refl) up
+
     half : (m : ℕ) (x y : Stream) → stream_at t.streams m ≡ Some x → x.own_open ≡ true → stream_at v.streams m ≡ Some y → is_open y ≡ true → (b : Bool) → eqb n m ≡ b → y.peer_open ≡ true
     half m x y at own_x there up true e =
         let g = head_there y (subst (λ (j : ℕ). stream_at v.streams j ≡ Some y) (sym (eqb-true n m e)) there) up in g.3 ∙ w.followed.halves n st g.0 here.1.found own g.1 g.2
@@ -267,6 +296,7 @@ answer_keeps_faces k next a b ab ba n fields h server fits first answer one room
         let other = eqb-false n m e in
         let g = alike y (stream_at u.streams m) (ap seen (sym there) ∙ others m other) in
         g.2.peer ∙ w.followed.halves m x g.0 (sym (others_t m other) ∙ at) own_x g.1 (g.2.up ∙ up)
+
     heads : (m : ℕ) (x y : Stream) → stream_at t.streams m ≡ Some x → stream_at v.streams m ≡ Some y → is_open y ≡ true → (b : Bool) → eqb n m ≡ b → y.answered ≡ x.answered
     heads m x y at there up true e =
         let same : n ≡ m = eqb-true n m e in
@@ -276,11 +306,13 @@ answer_keeps_faces k next a b ab ba n fields h server fits first answer one room
         let other = eqb-false n m e in
         let g = alike y (stream_at u.streams m) (ap seen (sym there) ∙ others m other) in
         g.2.head ∙ w.followed.heads client m x g.0 (sym (others_t m other) ∙ at) g.1 (g.2.up ∙ up)
+
     not_client : is_client t.role ≡ true → ⊥
     not_client c = contrary (ap (λ (z : State). is_client z.role) (sym is_t) ∙ c) server
       where
         contrary : is_client a.role ≡ true → is_client a.role ≡ false → ⊥
         contrary c d = cc
+
     followed : IsFollowed t v
     followed = record {
       began = now.began;
@@ -291,25 +323,30 @@ answer_keeps_faces k next a b ab ba n fields h server fits first answer one room
       opened = λ c. absurd (not_client c);
       begun = λ c. let low = w.followed.begun client in let same = now.opened in let mine = ap (λ (z : State). z.opened) is_t in omega (arith, low, same, mine);
     }
+
     awaits : Awaits t v
     awaits c m y low there up = by_test (eqb n m) refl
       where
         above : a.opened < m
         above = subst (λ (j : ℕ). j < m) (ap (λ (z : State). z.opened) is_t) low
+
         by_test : (b : Bool) → eqb n m ≡ b → (y.peer_open ≡ true) × (y.answered ≡ false)
         by_test true e = absurd (is_known a.opened m a.streams st h.end_a.holds.rising (subst (λ (j : ℕ). stream_at a.streams j ≡ Some st) (eqb-true n m e) here.1.found) above)
         by_test false e =
             let g = alike y (stream_at u.streams m) (ap seen (sym there) ∙ others m (eqb-false n m e)) in
             let z = w.awaits client m g.0 above g.1 (g.2.up ∙ up) in
             (g.2.peer ∙ z.0, g.2.head ∙ z.1)
+
     first_t : AnswersFirst t
     first_t s m x at e = by_test (eqb n m) refl
       where
         contrary : true ≡ false → ⊥
         contrary c = cc
+
         by_test : (b : Bool) → eqb n m ≡ b → (length x.queue ≡ 0) × (x.finish ≡ None)
         by_test true g = absurd (contrary (sym (ap answered_in (sym at ∙ subst (λ (j : ℕ). stream_at t.streams j ≡ Some (mark st)) (eqb-true n m g) at_t)) ∙ e))
         by_test false g = h.end_a.first server m x (sym (others_t m (eqb-false n m g)) ∙ at) e
+
     step : IsStep a t (head ∷ []) u
     step = record {
       still = record {
@@ -331,5 +368,6 @@ answer_keeps_faces k next a b ab ba n fields h server fits first answer one room
       all_goes = back_less a.send t.send (ap (λ (z : State). z.send) is_t);
       all_comes = same_more a.receive t.receive (ap (λ (z : State). z.receive) is_t);
     }
+
     room_t : reply_bytes t.out + 17 * asking ba ≤ 32768
     room_t = let same = ap (λ (z : State). reply_bytes z.out) is_t in let more = replies_more a.out (headers_frames n 0 block) in omega (arith, same, more, room)

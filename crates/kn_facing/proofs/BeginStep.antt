@@ -1,12 +1,12 @@
 -- A client begins its one stream.
-use Rattle.std.proofs.Common.{◌≡◌, ◌≢◌, ◌⊎◌, inl, inr, ◌<◌, ◌≤◌, ◌+◌, ◌*◌, ◌%◌, ℤ, pos, ◌+ℤ◌, ◌-ℤ◌, ◌&&◌, ◌||◌, ℕ, Bool, true, false, not, eqb, nat_lt, nat_le, length, List, [], ◌∷◌, ◌++◌, Option, Some, None, IfSome, Result, Ok, Err, refl, sym, ap, ◌∙◌, subst, arith, if◌then◌else◌}
+use Rattle.std.proofs.Common.{◌≡◌, ◌⊎◌, inl, inr, ◌<◌, ◌≤◌, ◌+◌, ◌*◌, ◌%◌, ℤ, pos, ◌+ℤ◌, ◌-ℤ◌, ◌||◌, ℕ, Bool, true, false, not, eqb, nat_lt, length, List, [], ◌∷◌, ◌++◌, Option, Some, None, IfSome, Result, Ok, Err, refl, sym, ap, ◌∙◌, subst, arith, if◌then◌else◌}
 use Rattle.std.specs.Prelude.{◌==◌}
 use Rattle.std.specs.List.{AllByRecursion}
 use Rattle.std.proofs.lemmas.Int.{ints}
 use Rattle.std.proofs.lemmas.Bool.{eqb-true, eqb-false, le-leb}
 use Rattle.kn_frames.specs.declared.frame.Frame.{Frame}
 use Rattle.kn_frames.specs.Frames.{IsWithinLimits}
-use Rattle.kn_hpack.specs.Fields.{Field, Table}
+use Rattle.kn_hpack.specs.Fields.{Field}
 use Rattle.kn_hpack.specs.Blocks.{Progress, progress, read_block}
 use Rattle.kn_hpack.specs.Encoding.{block_of}
 use Rattle.kn_hpack.specs.declared.fault.HpackFault.{HpackFault}
@@ -14,11 +14,11 @@ use Rattle.kn_h2_state.specs.declared.event.H2Event.TheVariants.{Opened}
 use Rattle.kn_h2_state.specs.declared.state.Block.{Block}
 use Rattle.kn_h2_state.specs.declared.stream.Stream.{Stream}
 use Rattle.kn_h2_state.specs.declared.state.State.{State}
-use Rattle.kn_h2_state.specs.InStep.{no_table, IsInStep, NextIsRead}
-use Rattle.kn_h2_state.specs.Limits.{reply_limit, default_window, frame_limit, block_limit}
+use Rattle.kn_h2_state.specs.InStep.{no_table, NextIsRead}
+use Rattle.kn_h2_state.specs.Limits.{reply_limit, frame_limit}
 use Rattle.kn_h2_state.specs.Outgoing.{reply_bytes}
 use Rattle.kn_h2_state.specs.Payloads.{content}
-use Rattle.kn_h2_state.specs.Streams.{stream_at, is_open, on_open, passes}
+use Rattle.kn_h2_state.specs.Streams.{stream_at, on_open}
 use Rattle.kn_h2_state.specs.Heads.{is_malformed_request}
 use Rattle.kn_h2_state.specs.Rules.{is_client, bytes_so_far, block_with, verdict}
 use Rattle.kn_h2_state.specs.Effects.{event, new_stream, if_open, data_of, block_of_headers, head_of, request, accepted, reset_of, settings, ping, goaway, window_update, effect}
@@ -29,18 +29,17 @@ use Rattle.kn_h2_state.specs.Holding.{Holds, Rising}
 use Rattle.kn_h2_state.specs.Laws.{Seen, seen, seen_at}
 use Rattle.kn_h2_state.specs.Preorder.{IsOpenIn, IsNewTo}
 use Rattle.kn_h2_state.specs.Wire.{frame, grants_in, frame_grant, data_lengths_in, data_length, head_list}
-use Rattle.kn_h2_state.proofs.BorneLemmas.{Rises, rises, none_above, at_push}
+use Rattle.kn_h2_state.proofs.BorneLemmas.{rises, none_above, at_push}
 use Rattle.kn_h2_state.proofs.OtherLaws.{either, alike_all_settings, same_ping, same_goaway, frames_leave_others}
 use Rattle.kn_h2_state.proofs.PieceLaws.{after_frame-judged}
 use Rattle.kn_h2_state.proofs.PreorderLaws.{Silent, silent, old_data, old_reset, old_grant, old_head}
 use Rattle.kn_h2.proofs.BeginLemmas.{holds_begin}
 use Rattle.kn_h2.proofs.HoldsLemmas.{replies_same}
 use Rattle.kn_h2.specs.Written.{begin_list}
-use Rattle.kn_facing.specs.Facing.{emptied, IsFollowed, Awaits, IsPlain, IsTaken, Fits, AreTaken, asks, asking}
+use Rattle.kn_facing.specs.Facing.{emptied, IsFollowed, Awaits, IsTaken, AreTaken, asks, asking}
 use Rattle.kn_facing.specs.Laws.{AreTakenToo}
 use Rattle.kn_facing.specs.Sums.{MayCome, MayGo}
-use Rattle.kn_facing.specs.Faces.{all_lengths, IsEnd, Faces, IsStep, IsOneFrame, BeginKeepsFaces}
-use Rattle.kn_facing.specs.Taken.{IsListening, ReadsBlock, TakesRequest}
+use Rattle.kn_facing.specs.Faces.{all_lengths, IsEnd, Faces, IsStep, BeginKeepsFaces}
 use Rattle.kn_facing.proofs.CarryLemmas.{holds_emptied, none_waits}
 use Rattle.kn_facing.proofs.FaceLemmas.{Known, Runs, runs}
 use Rattle.kn_facing.proofs.MoveTaken.{Knows, knows}
@@ -77,6 +76,7 @@ seen_effect x y f v client above whole =
   where
     q : Silent x f
     q = silent x f v
+
     P : State → Type 0
     P z = seen_at z f.stream ≡ seen_at y f.stream
 
@@ -86,6 +86,7 @@ seen_frame x y f m v client above whole holds on w = by_test (eqb f.stream m) re
   where
     to : after_frame y f ≡ effect (record y { began = true }) f
     to = after_frame-judged y f on ∙ ap (λ o. judged y f o) w
+
     by_test : (b : Bool) → eqb f.stream m ≡ b → seen_at (after_frame y f) m ≡ seen_at y m
     by_test false e = frames_leave_others y f m holds (eqb-false f.stream m e)
     by_test true e =
@@ -187,39 +188,55 @@ begin_keeps_faces k next a b ab ba fields h client none formed one room =
   where
     n : ℕ
     n = next_number a
+
     block : List ℕ
     block = block_of a.encoder fields
+
     head : Frame
     head = frame 1 4 n block
+
     t : State
     t = after_begin fields a
+
     u : State
     u = after_frames (emptied b) ab
+
     w : Knows a u
     w = knows k a b ab ba h
+
     frames : begin_list a fields ≡ head ∷ []
     frames = head_frames n 0 block one.short
+
     is_one : n ≡ 1
     is_one = is_first a none
+
     server : is_client u.role ≡ false
     server = w.other ∙ ap not client
+
     known : u.opened ≡ 0
     known = w.followed.opened client ∙ none
+
     empty : u.streams ≡ []
     empty = no_streams u w.holds known
+
     reads : read_block u.decoder block ≡ Ok (progress no_table fields)
     reads = next a.encoder u.decoder fields one.small w.followed.decoder
+
     whole : block_with u head ≡ block
     whole = ap (λ (o : Option Block). bytes_so_far o ++ content head) w.followed.block ∙ content_is n block
+
     closed : on_open u.streams n (λ st. true) ≡ false
     closed = ap (λ (ss : List Stream). on_open ss n (λ st. true)) empty ∙ nowhere
       where
         nowhere : on_open [] n (λ st. true) ≡ false
         nowhere = none_at n
+
     odd : (n % 2 == 0) ≡ false
     odd = ap (λ (j : ℕ). j % 2 == 0) is_one
+
     fields_of : (p : Progress) → read_block u.decoder (block_with u head) ≡ Ok p → is_malformed_request p.fields ≡ false
     fields_of p e = ap (λ (r : Result Progress HpackFault). malformed_in r) (sym (sym reads ∙ (ap (λ (l : List ℕ). read_block u.decoder l) (sym whole) ∙ e))) ∙ formed
+
     taken : IsTaken u head
     taken = record {
       kept = request_is_taken u n block (record {
@@ -233,17 +250,22 @@ begin_keeps_faces k next a b ab ba fields h client none formed one room =
       where
         contrary : is_client u.role ≡ true → is_client u.role ≡ false → ⊥
         contrary c d = cc
+
     low : nat_lt u.opened n ≡ true
     low = ap (λ (j : ℕ). nat_lt j n) known ∙ ap (λ (j : ℕ). nat_lt 0 j) is_one
+
     after : after_frame u head ≡ after_request u n fields
     after = after_frame-judged u head w.goes ∙ (ap (λ o. judged u head o) taken.kept ∙ requested u n block fields w.followed.block reads server low empty formed)
+
     new_there : (m : ℕ) → IfSome (stream_at (new_stream n u ∷ []) m) (λ st. st.peer_open ≡ true)
     new_there m = at_push (λ (o : Option Stream). IfSome o (λ st. st.peer_open ≡ true)) [] m (new_stream n u) (λ e. refl) (none_in m)
+
     no_client : is_client u.role ≡ true → ⊥
     no_client c = contrary server c
       where
         contrary : is_client u.role ≡ false → is_client u.role ≡ true → ⊥
         contrary d e = cc
+
     followed : IsFollowed t (after_request u n fields)
     followed = record {
       began = refl;
@@ -254,6 +276,7 @@ begin_keeps_faces k next a b ab ba fields h client none formed one room =
       opened = λ c. refl;
       begun = λ c. absurd (no_client c);
     }
+
     still : IsEnd t
     still = record {
       holds = holds_begin fields a (omega (arith, is_one)) h.end_a.holds;
@@ -266,6 +289,7 @@ begin_keeps_faces k next a b ab ba fields h client none formed one room =
       where
         contrary : is_client a.role ≡ false → ⊥
         contrary s = cc
+
     step : IsStep a t (head ∷ []) u
     step = record {
       still = still;
@@ -280,21 +304,27 @@ begin_keeps_faces k next a b ab ba fields h client none formed one room =
       all_goes = same_less a.send;
       all_comes = same_less a.receive;
     }
+
     still_room : reply_bytes t.out + 17 * asking ba ≤ 32768
     still_room = let same = replies_same a.out (headers_frames n 0 block) in let few = h.to_a.replies in omega (arith, same, few)
+
     back : AreTakenToo (emptied a) (emptied t) ba
     back = taken_back k a b t ab ba h still step.hears
+
     run : Runs (emptied a) ba
     run = runs k.keep (emptied a) ba (holds_emptied a h.end_a.holds) h.end_a.goes h.to_a.limits h.to_a.taken (let empty_out = none_waits in let few = h.to_a.replies in omega (arith, empty_out, few))
+
     fresh_at : (m : ℕ) → a.opened < m → IsFresh (stream_at t.streams m)
     fresh_at m above =
         at_push IsFresh a.streams m (new_stream n a) (λ e. (refl, refl))
         (subst IsFresh (sym (none_above 0 a.opened m a.streams (rises 0 a.opened a.streams h.end_a.holds.rising) above)) tt)
+
     waits : Awaits b (after_frames (emptied t) ba)
     waits c m y below at up = by_case (back.more.streams m y at up)
       where
         here : is_client (after_frames (emptied a) ba).role ≡ true
         here = ap is_client run.steady.role ∙ client
+
         by_case : IsOpenIn (after_frames (emptied a) ba) m y ⊎ IsNewTo (after_frames (emptied a) ba) (after_frames (emptied t) ba) m y → (y.peer_open ≡ true) × (y.answered ≡ false)
         by_case (inl (x, was, open_x, much)) = let v = h.to_a.awaits here m x below was open_x in (much.half ∙ v.0, much.head here ∙ v.1)
         by_case (inr (c', above, less)) =

@@ -1,20 +1,15 @@
 -- What is on its way is still taken by an end that hears at least as much.
-use Rattle.std.proofs.Common.{◌≡◌, ◌⊎◌, inl, inr, ◌<◌, ◌≤◌, ◌+◌, ◌*◌, ◌&&◌, ℕ, Bool, true, false, not, List, [], ◌∷◌, ◌++◌, Option, Some, None, Result, Ok, refl, sym, ap, ◌∙◌, subst, arith}
+use Rattle.std.proofs.Common.{◌≡◌, ◌⊎◌, inl, inr, ◌≤◌, ◌&&◌, Bool, true, false, not, List, [], ◌∷◌, ◌++◌, Option, Some, None, Ok, refl, sym, ap, ◌∙◌, subst, arith}
 use Rattle.std.specs.Prelude.{◌==◌}
-use Rattle.std.specs.List.{AllByRecursion}
 use Rattle.kn_frames.specs.declared.frame.Frame.{Frame}
-use Rattle.kn_frames.specs.Frames.{IsWithinLimits}
 use Rattle.kn_hpack.specs.Fields.{Field, Table}
 use Rattle.kn_hpack.specs.Blocks.{Progress, read_block}
-use Rattle.kn_hpack.specs.declared.fault.HpackFault.{HpackFault}
-use Rattle.kn_h2_state.specs.declared.role.Role.{Role}
 use Rattle.kn_h2_state.specs.declared.state.Block.{Block}
 use Rattle.kn_h2_state.specs.declared.stream.Stream.{Stream}
 use Rattle.kn_h2_state.specs.declared.state.State.{State}
-use Rattle.kn_h2_state.specs.Limits.{reply_limit, stream_limit}
 use Rattle.kn_h2_state.specs.Outgoing.{nothing_out, count_true, reply_bytes}
 use Rattle.kn_h2_state.specs.Payloads.{content}
-use Rattle.kn_h2_state.specs.Streams.{stream_at, is_open, on_open, passes, open_count}
+use Rattle.kn_h2_state.specs.Streams.{stream_at, is_open, on_open, passes}
 use Rattle.kn_h2_state.specs.Rules.{is_client, block_with, bytes_so_far, verdict}
 use Rattle.kn_h2_state.specs.Feeding.{after_frame, after_frames}
 use Rattle.kn_h2_state.specs.Holding.{Holds}
@@ -23,8 +18,8 @@ use Rattle.kn_h2_state.specs.Preorder.{HearsMore, IsOpenIn, IsNewTo, MoreIsHeard
 use Rattle.kn_h2_state.proofs.PreorderLaws.{silent, old_head}
 use Rattle.kn_h2.specs.Steady.{RoleStays}
 use Rattle.kn_h2.proofs.FoundLemmas.{found_open}
-use Rattle.kn_facing.specs.Facing.{emptied, asks, asking, IsTaken, Fits, IsResponse, AreTaken}
-use Rattle.kn_facing.specs.Laws.{AreTakenToo, MoreAreTaken}
+use Rattle.kn_facing.specs.Facing.{emptied, asks, asking, IsTaken, Fits, AreTaken}
+use Rattle.kn_facing.specs.Laws.{MoreAreTaken}
 use Rattle.kn_facing.proofs.RoomLemmas.{Replied, most, few_replies, one_open, Keeps, opened_on}
 
 -- ---- what waits for the socket, and what is told, is not looked at
@@ -109,7 +104,7 @@ more_are_taken heard frames above keep roles s t (f ∷ fs) hs ht h on on' limit
     let next' = keep t f ht limits.0 in
     let more = frames s t f hs ht h on on' one.kept (λ server. one_open s.opened s.streams hs.rising (few_here server)) (λ server. one_open t.opened t.streams ht.rising (few_there server)) in
     let rest = more_are_taken heard frames above keep roles (after_frame s f) (after_frame t f) fs next next' more first.goes second.goes limits.1 taken.1 (omega (arith, room, fits)) (omega (arith, room', fits'))
-        (λ server. few (sym (ap is_client (roles.frame s f)) ∙ server)) in
+    (λ server. few (sym (ap is_client (roles.frame s f)) ∙ server)) in
     record { taken = (too, rest.taken); more = rest.more; goes = rest.goes }
   where
     few_here : is_client s.role ≡ false → s.opened ≤ 1
@@ -118,5 +113,6 @@ more_are_taken heard frames above keep roles s t (f ∷ fs) hs ht h on on' limit
         let raise = (above s f hs).opened in
         let most_one = few server in
         omega (arith, raised, raise, most_one)
+
     few_there : is_client s.role ≡ false → t.opened ≤ 1
     few_there server = let same = h.server server in let here = few_here server in omega (arith, same, here)

@@ -1,41 +1,25 @@
 -- Two ends that face each other, and a frame that one of them reads.
-use Rattle.std.proofs.Common.{◌≡◌, ◌⊎◌, inl, inr, ◌<◌, ◌≤◌, ◌+◌, ◌*◌, ◌-◌, ℤ, pos, ◌+ℤ◌, ◌-ℤ◌, ◌&&◌, ℕ, Bool, true, false, not, length, List, [], ◌∷◌, ◌++◌, append-nil, Option, Some, None, IfSome, refl, sym, ap, ◌∙◌, subst, arith, if◌then◌else◌}
-use Rattle.std.specs.Prelude.{◌==◌}
+use Rattle.std.proofs.Common.{◌≡◌, ◌⊎◌, inl, inr, ◌≤◌, ◌+◌, ◌*◌, Bool, true, false, not, List, [], ◌∷◌, None, refl, sym, ap, ◌∙◌, arith}
 use Rattle.std.specs.List.{AllByRecursion}
-use Rattle.std.proofs.lemmas.Int.{ints}
 use Rattle.kn_frames.specs.declared.frame.Frame.{Frame}
 use Rattle.kn_frames.specs.Frames.{IsWithinLimits}
-use Rattle.kn_hpack.specs.Fields.{Field}
-use Rattle.kn_h2_state.specs.declared.stream.Stream.{Stream}
 use Rattle.kn_h2_state.specs.declared.state.State.{State}
 use Rattle.kn_h2_state.specs.Limits.{reply_limit}
-use Rattle.kn_h2_state.specs.Outgoing.{nothing_out, reply_bytes}
-use Rattle.kn_h2_state.specs.Payloads.{has, settings_of}
-use Rattle.kn_h2_state.specs.Streams.{stream_at, is_open, shut}
-use Rattle.kn_h2_state.specs.Rules.{is_client, verdict, shifted_one}
-use Rattle.kn_h2_state.specs.Effects.{effect, settings, with_grant}
-use Rattle.kn_h2_state.specs.Feeding.{judged, after_frame, after_frames}
+use Rattle.kn_h2_state.specs.Outgoing.{reply_bytes}
+use Rattle.kn_h2_state.specs.Rules.{is_client}
+use Rattle.kn_h2_state.specs.Feeding.{after_frame, after_frames}
 use Rattle.kn_h2_state.specs.Holding.{Holds}
 use Rattle.kn_h2_state.specs.Opening.{FramesOpenAbove, AnsweredIsKept}
 use Rattle.kn_h2_state.specs.Preorder.{HearsMore, IsOpenIn, IsNewTo, MoreIsHeard, FramesKeepMore, OwnStepsAreHeard, OwnFactsAreKept}
-use Rattle.kn_h2_state.specs.Wire.{frame, frame_grant, grants_in, data_length, data_lengths_in}
-use Rattle.kn_h2_state.proofs.BorneLemmas.{Bears, rises, borne_frame, borne_start}
-use Rattle.kn_h2_state.proofs.PieceLaws.{after_frame-judged, after_frames-append}
 use Rattle.kn_h2.specs.Steady.{RoleStays}
 use Rattle.kn_h2.specs.Windows.{FramesShift, FramesShiftAll}
-use Rattle.kn_facing.specs.Facing.{emptied, IsFollowed, Awaits, IsPlain, IsTaken, AreTaken, asks, asking}
-use Rattle.kn_facing.specs.Sums.{MayCome, MayGo, StreamSum}
-use Rattle.kn_facing.specs.Faces.{all_lengths, ConnectionSum, AnswersFirst, IsEnd, IsSound, Faces, FacesTurn, acknowledged, FramesKeepFaces}
+use Rattle.kn_facing.specs.Facing.{IsFollowed, Awaits, AreTaken, asks, asking}
+use Rattle.kn_facing.specs.Faces.{FacesTurn}
 use Rattle.kn_facing.specs.Laws.{AreTakenToo}
-use Rattle.kn_facing.specs.Taken.{IsListening}
-use Rattle.kn_facing.proofs.CarryLemmas.{hears_left, hears_right, holds_emptied, taken_too, more_are_taken, none_waits}
+use Rattle.kn_facing.proofs.CarryLemmas.{more_are_taken}
 use Rattle.kn_facing.proofs.FollowedLemmas.{is_known, stays_followed}
-use Rattle.kn_facing.proofs.ListSums.{grants-append, lengths-append, all-append, asking-append, all_by-append, Nothing, acks_nothing, grants-first, lengths-first, all-first}
-use Rattle.kn_facing.proofs.ReadLemmas.{frames_keep_followed}
-use Rattle.kn_facing.proofs.RoomLemmas.{Replied, most, few_replies, one_open, Keeps, opened_on}
+use Rattle.kn_facing.proofs.RoomLemmas.{Replied, most, few_replies, Keeps}
 use Rattle.kn_facing.proofs.SteadyLemmas.{Steady, steady_frame}
-use Rattle.kn_facing.proofs.SumLemmas.{frames_take, frames_grant}
-use Rattle.kn_facing.proofs.TakenLemmas.{acknowledgement_is_taken}
 
 -- the laws of the crates below that are used
 pub record Known : Type 0 where
@@ -98,6 +82,7 @@ awaits_on s t u h same holds waits client n b low at up = by_case (h.streams n b
   where
     here : is_client t.role ≡ true
     here = ap is_client (sym h.role) ∙ client
+
     by_case : IsOpenIn t n b ⊎ IsNewTo t u n b → (b.peer_open ≡ true) × (b.answered ≡ false)
     by_case (inl (a, was, open_a, much)) = let w = waits here n a low was open_a in (much.half ∙ w.0, much.head here ∙ w.1)
     by_case (inr (new, above, less)) = let e = same here in absurd (is_known u.opened n u.streams b holds.rising at (omega (arith, e, above)))
@@ -142,10 +127,13 @@ way_on k s x y fs hs one b hy on hears same room = record {
   where
     too : AreTakenToo x y fs
     too = way_taken k s x y fs one b hy on hears room
+
     run_x : Runs x fs
     run_x = runs k.keep x fs b.holds b.goes b.limits b.taken b.room
+
     run_y : Runs y fs
     run_y = runs k.keep y fs hy on b.limits too.taken room
+
     opened : is_client (after_frames x fs).role ≡ true → (after_frames y fs).opened ≡ (after_frames x fs).opened
     opened client =
         let here : is_client x.role ≡ true = ap is_client (sym run_x.steady.role) ∙ client in

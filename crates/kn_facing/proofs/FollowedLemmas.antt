@@ -1,11 +1,9 @@
 -- What one end may write next, and the other takes.
-use Rattle.std.proofs.Common.{◌≡◌, ◌<◌, ◌≤◌, ◌⊎◌, inl, inr, ℕ, Bool, true, false, not, List, [], ◌∷◌, Option, Some, None, refl, sym, ap, ◌∙◌, subst, arith, cond, eqb}
+use Rattle.std.proofs.Common.{◌≡◌, ◌<◌, ◌⊎◌, inl, inr, ℕ, Bool, true, not, List, Some, None, sym, ap, ◌∙◌, subst, arith}
 use Rattle.kn_hpack.specs.Fields.{Table}
-use Rattle.kn_h2_state.specs.declared.role.Role.{Role}
 use Rattle.kn_h2_state.specs.declared.stream.Stream.{Stream}
-use Rattle.kn_h2_state.specs.declared.state.State.{State}
 use Rattle.kn_h2_state.specs.InStep.{IsInStep}
-use Rattle.kn_h2_state.specs.Streams.{stream_at, is_open}
+use Rattle.kn_h2_state.specs.Streams.{stream_at}
 use Rattle.kn_h2_state.specs.Rules.{is_client}
 use Rattle.kn_h2_state.specs.Holding.{Rising}
 use Rattle.kn_h2_state.specs.Preorder.{IsOpenIn, IsNewTo}

@@ -2,6 +2,7 @@ pub mod AheadLemmas
 pub mod AnswerStep
 pub mod BeginStep
 pub mod CarryLemmas
+pub mod EndStep
 pub mod FaceLemmas
 pub mod FacingLemmas
 pub mod FollowedLemmas
@@ -9,6 +10,8 @@ pub mod ListSums
 pub mod MoveStep
 pub mod MoveTaken
 pub mod OwnSumLemmas
+pub mod OpenLemmas
+pub mod PairLemmas
 pub mod ReadLemmas
 pub mod ReadStep
 pub mod RoomLemmas
@@ -17,3 +20,4 @@ pub mod SteadyLemmas
 pub mod StepLemmas
 pub mod SumLemmas
 pub mod TakenLemmas
+pub mod WireLemmas

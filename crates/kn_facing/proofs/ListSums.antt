@@ -1,11 +1,11 @@
 -- Sums over frames one behind the other, and what acknowledges SETTINGS behind them.
-use Rattle.std.proofs.Common.{◌≡◌, ◌+◌, ℕ, Bool, true, false, not, ◌&&◌, ◌||◌, length, List, [], ◌∷◌, ◌++◌, None, refl, sym, ap, ◌∙◌, subst, arith, cond, if◌then◌else◌}
+use Rattle.std.proofs.Common.{◌≡◌, ◌+◌, ℕ, Bool, true, false, not, ◌&&◌, length, List, [], ◌∷◌, ◌++◌, refl, arith, if◌then◌else◌}
 use Rattle.std.specs.Prelude.{◌==◌}
 use Rattle.std.specs.List.{AllByRecursion}
 use Rattle.kn_frames.specs.declared.frame.Frame.{Frame}
 use Rattle.kn_h2_state.specs.Payloads.{has}
 use Rattle.kn_h2_state.specs.Wire.{frame, frame_grant, grants_in, data_length, data_lengths_in}
-use Rattle.kn_facing.specs.Facing.{asks, asking}
+use Rattle.kn_facing.specs.Facing.{asking}
 use Rattle.kn_facing.specs.Faces.{all_lengths, acknowledged}
 
 pub grants-append : (n : ℕ) (fs gs : List Frame) → grants_in n (fs ++ gs) ≡ grants_in n fs + grants_in n gs

@@ -1,9 +1,7 @@
 -- What an end writes where there is room: what every move changes of it.
-use Rattle.std.proofs.Common.{◌≡◌, ◌≢◌, ◌⊎◌, inl, inr, ◌<◌, ◌≤◌, ◌+◌, ◌*◌, ◌-◌, ℤ, pos, ◌+ℤ◌, ◌-ℤ◌, ◌&&◌, ℕ, zero, suc, Bool, true, false, not, eqb, length, take, drop, length-drop, length-take, List, [], ◌∷◌, ◌++◌, Option, Some, None, IfSome, refl, sym, ap, ◌∙◌, subst, arith, cond, if◌then◌else◌}
-use Rattle.std.specs.Prelude.{◌==◌, nat_le}
-use Rattle.std.specs.List.{AllByRecursion}
+use Rattle.std.proofs.Common.{◌≡◌, inl, inr, ◌≤◌, ◌+◌, ℤ, pos, ◌+ℤ◌, ◌-ℤ◌, ℕ, zero, suc, Bool, true, false, not, length, take, drop, length-drop, length-take, List, [], ◌∷◌, Option, Some, None, refl, sym, ap, ◌∙◌, subst, arith, if◌then◌else◌}
+use Rattle.std.specs.Prelude.{nat_le}
 use Rattle.std.proofs.lemmas.Int.{ints}
-use Rattle.std.proofs.lemmas.Bool.{eqb-true, eqb-false}
 use Rattle.kn_frames.specs.declared.frame.Frame.{Frame}
 use Rattle.kn_frames.specs.Readers.{Reading, in_frames}
 use Rattle.kn_hpack.specs.Fields.{Field}
@@ -13,13 +11,13 @@ use Rattle.kn_h2_state.specs.declared.moves.Move.TheVariants.{GrantAll, Grant, S
 use Rattle.kn_h2_state.specs.declared.stream.Stream.{Stream}
 use Rattle.kn_h2_state.specs.declared.state.State.{State}
 use Rattle.kn_h2_state.specs.Limits.{frame_limit}
-use Rattle.kn_h2_state.specs.Streams.{stream_at, change, tidied, is_open, on_open}
+use Rattle.kn_h2_state.specs.Streams.{stream_at, change}
 use Rattle.kn_h2_state.specs.Rules.{is_client}
 use Rattle.kn_h2_state.specs.Feeding.{after_frames}
 use Rattle.kn_h2_state.specs.Holding.{Holds}
-use Rattle.kn_h2_state.specs.Moves.{may, is_due, can_send, made, target, after_move, granted, sent_some, own_ended, stopped}
+use Rattle.kn_h2_state.specs.Moves.{may, can_send, made, target, after_move, granted, sent_some, own_ended, stopped}
 use Rattle.kn_h2_state.specs.Wire.{frame, grants_in, data_lengths_in, more_list, head_list, end_list, made_frames, move_frames, moved_text, WrittenIsRead, MovesAreWritten, IsBetweenFrames}
-use Rattle.kn_h2_state.proofs.BorneLemmas.{Rises, rises, climbing, rises_change, at_change, at_tidied}
+use Rattle.kn_h2_state.proofs.BorneLemmas.{rises, climbing, rises_change, at_change, at_tidied}
 use Rattle.kn_h2_state.proofs.SeenLemmas.{Climbs, climbs, none_below}
 use Rattle.kn_h2_state.proofs.TellLaws.{moves_are_quiet}
 use Rattle.kn_h2.specs.Sending.{MoveKeeps, Spends, spent_by, spent}
@@ -32,7 +30,7 @@ use Rattle.kn_facing.specs.Sums.{MayCome, MayGo}
 use Rattle.kn_facing.specs.Faces.{all_lengths, AnswersFirst, IsEnd, IsStep}
 use Rattle.kn_facing.proofs.FaceLemmas.{Known}
 use Rattle.kn_facing.proofs.OwnSumLemmas.{move_opened, moves_shift_both}
-use Rattle.kn_facing.proofs.ReadStep.{First, FirstOf, first_at}
+use Rattle.kn_facing.proofs.ReadStep.{FirstOf, first_at}
 
 -- the laws of the crates below on moves
 pub record Moving : Type 0 where
@@ -73,8 +71,10 @@ move_first s m holds role first server n st at e = subst FirstOf at (by_found m 
   where
     here : is_client s.role ≡ false
     here = ap is_client (sym role) ∙ server
+
     q : FirstOf (stream_at s.streams n)
     q = first_at s n first here (stream_at s.streams n) refl
+
     by_found : (m : Move) (o : Option Stream) → FirstOf (stream_at (made s m o).streams n)
     by_found GrantAll o = q
     by_found (Grant k) None = q
@@ -130,9 +130,11 @@ all_moved s (End n) ok = by_found (stream_at s.streams n)
     by_role : (b : Bool) (block : List ℕ) → all_lengths (if b then frame 0 1 n [] ∷ [] else head_list n 1 block) ≡ 0
     by_role true block = refl
     by_role false block = no_data_head n 1 block
+
     by_finish : (finish : Option (List Field)) → all_lengths (end_list s n finish) ≡ 0
     by_finish None = refl
     by_finish (Some trailers) = by_role (is_client s.role) (block_of s.encoder trailers)
+
     by_found : (o : Option Stream) → all_lengths (made_frames s (End n) o) ≡ 0
     by_found None = refl
     by_found (Some st) = by_finish st.finish
@@ -188,18 +190,24 @@ move_step k v s m u e ok t = record {
   where
     holds : Holds (after_move s m)
     holds = v.keeps s m e.holds ok
+
     reader : Reading
     reader = in_frames [] 0
+
     between : IsBetweenFrames reader
     between = (0, refl)
+
     lengths : (n : ℕ) → data_lengths_in n (move_frames s m) ≡ length (moved_text n s m)
     lengths n = ap (λ (fs : List Frame). data_lengths_in n fs) (sym (v.read (move_frames s m) reader (v.written s m e.holds ok).limits between).frames) ∙ (v.brings s m n e.holds ok reader between).taken
+
     grants : (n : ℕ) → grants_in n (move_frames s m) ≡ granted_by n s m
     grants n = ap (λ (fs : List Frame). grants_in n fs) (sym (v.read (move_frames s m) reader (v.written s m e.holds ok).limits between).frames) ∙ (v.brings s m n e.holds ok reader between).grants
+
     goes : (n : ℕ) (x : ℤ) → MayGo (after_move s m) n x → MayGo s n (x +ℤ pos (data_lengths_in n (move_frames s m)))
     goes n x g =
         subst (λ (j : ℕ). MayGo s n (x +ℤ pos j)) (sym (lengths n))
         ((moves_shift_both k.steps v.keeps v.shifts s m n e.holds e.facts ok (λ is_none. no_zero_go (after_move s m) n x holds is_none g)).goes x g)
+
     comes : (n : ℕ) (y : ℤ) → MayCome (after_move s m) n y → MayCome s n (y -ℤ pos (grants_in n (move_frames s m)))
     comes n y g =
         subst (λ (j : ℕ). MayCome s n (y -ℤ pos j)) (sym (grants n))

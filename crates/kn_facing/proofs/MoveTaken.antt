@@ -1,27 +1,26 @@
 -- Grants and text that one end writes, the other takes.
-use Rattle.std.proofs.Common.{◌≡◌, ◌≢◌, ◌⊎◌, inl, inr, ◌<◌, ◌≤◌, ◌+◌, ◌*◌, ◌%◌, ℤ, pos, ◌+ℤ◌, ◌-ℤ◌, ◌≤ℤ◌, ◌&&◌, ◌||◌, ℕ, Bool, true, false, not, eqb, nat_lt, nat_le, length, take, length-take, List, [], ◌∷◌, ◌++◌, Option, Some, None, IfSome, refl, sym, ap, ◌∙◌, subst, arith, if◌then◌else◌}
+use Rattle.std.proofs.Common.{◌≡◌, inl, ◌<◌, ◌≤◌, ◌+◌, ◌*◌, ℤ, pos, ◌+ℤ◌, ◌-ℤ◌, ◌≤ℤ◌, ◌&&◌, ◌||◌, ℕ, Bool, true, false, not, eqb, nat_le, length, take, length-take, List, [], ◌∷◌, Option, Some, None, refl, sym, ap, ◌∙◌, subst, arith, if◌then◌else◌}
 use Rattle.std.specs.Prelude.{◌==◌}
 use Rattle.std.specs.Int.{to_be_bytes, w32}
-use Rattle.std.specs.List.{AllByRecursion}
 use Rattle.std.proofs.lemmas.Int.{ints}
-use Rattle.std.proofs.lemmas.Bool.{leb-true, eqb-true, ne_eqb, and_parts, not-false}
+use Rattle.std.proofs.lemmas.Bool.{leb-true, ne_eqb, and_parts}
 use Rattle.kn_frames.specs.declared.frame.Frame.{Frame}
-use Rattle.kn_frames.specs.Frames.{spelled, IsWithinLimits}
+use Rattle.kn_frames.specs.Frames.{spelled}
 use Rattle.kn_windows.specs.Windows.{can_spend, can_grow}
 use Rattle.kn_h2_state.specs.declared.event.H2Event.TheVariants.{Text}
 use Rattle.kn_h2_state.specs.declared.moves.Move.{Move}
 use Rattle.kn_h2_state.specs.declared.moves.Move.TheVariants.{GrantAll, Grant, Send, End, Stop}
 use Rattle.kn_h2_state.specs.declared.stream.Stream.{Stream}
 use Rattle.kn_h2_state.specs.declared.state.State.{State}
-use Rattle.kn_h2_state.specs.Limits.{reply_limit, default_window, stream_window, connection_window, grant_size}
+use Rattle.kn_h2_state.specs.Limits.{reply_limit, stream_window, connection_window, grant_size}
 use Rattle.kn_h2_state.specs.Outgoing.{reply_bytes}
-use Rattle.kn_h2_state.specs.Payloads.{has, content, increment_of, grant_frame}
-use Rattle.kn_h2_state.specs.Streams.{stream_at, change, is_open, on_open, passes}
-use Rattle.kn_h2_state.specs.Rules.{is_client, is_idle, verdict}
-use Rattle.kn_h2_state.specs.Effects.{event, with_text, text_told, data_taken, data_in, data_dropped, data_of, with_grant, window_update, effect}
+use Rattle.kn_h2_state.specs.Payloads.{content, increment_of, grant_frame}
+use Rattle.kn_h2_state.specs.Streams.{stream_at, change, is_open, on_open}
+use Rattle.kn_h2_state.specs.Rules.{is_client}
+use Rattle.kn_h2_state.specs.Effects.{event, with_text, data_taken, data_in, data_dropped, data_of, with_grant, window_update, effect}
 use Rattle.kn_h2_state.specs.Feeding.{judged, after_frame, after_frames}
 use Rattle.kn_h2_state.specs.Holding.{Holds, HasSum, HasRoom, text_bytes}
-use Rattle.kn_h2_state.specs.Moves.{may, is_due, is_owed, can_send, made, after_move, granted, sent_some}
+use Rattle.kn_h2_state.specs.Moves.{may, is_owed, can_send, made, after_move, granted, sent_some}
 use Rattle.kn_h2_state.specs.Wire.{frame, grants_in, data_lengths_in, made_frames, move_frames}
 use Rattle.kn_h2_state.proofs.BorneLemmas.{at_change, grant_number}
 use Rattle.kn_h2_state.proofs.PieceLaws.{after_frame-judged}
@@ -30,17 +29,17 @@ use Rattle.kn_h2.proofs.MoveLemmas.{move_parts, send_parts, IsSendable}
 use Rattle.kn_h2.proofs.HoldsLemmas.{replies_same}
 use Rattle.kn_h2.proofs.OwnWindows.{above_0}
 use Rattle.kn_h2.proofs.StreamLemmas.{all_at}
-use Rattle.kn_facing.specs.Facing.{emptied, IsFollowed, Awaits, IsPlain, IsTaken, AreTaken, asks, asking}
-use Rattle.kn_facing.specs.Sums.{MayCome, MayGo, StreamSum}
-use Rattle.kn_facing.specs.Faces.{all_lengths, ConnectionSum, IsEnd, IsSound, Faces, IsCarrying, MovesKeepFaces}
-use Rattle.kn_facing.specs.Taken.{IsListening, TakesData}
+use Rattle.kn_facing.specs.Facing.{emptied, IsFollowed, Awaits, IsTaken, AreTaken, asking}
+use Rattle.kn_facing.specs.Sums.{MayCome, MayGo}
+use Rattle.kn_facing.specs.Faces.{all_lengths, IsEnd, Faces, IsCarrying, MovesKeepFaces}
+use Rattle.kn_facing.specs.Taken.{IsListening}
 use Rattle.kn_facing.proofs.AheadLemmas.{Ahead, ahead_of, Upper, upper_itself, Below, Above, followed_both, awaits_both, no_open, may_spend, may_grow, is_not_idle}
 use Rattle.kn_facing.proofs.CarryLemmas.{holds_emptied, none_waits}
 use Rattle.kn_facing.proofs.FaceLemmas.{Known, Runs, runs}
 use Rattle.kn_facing.proofs.ListSums.{asking-append}
 use Rattle.kn_facing.proofs.MoveStep.{Moving, MoveTaken, move_step}
 use Rattle.kn_facing.proofs.OwnSumLemmas.{move_opened}
-use Rattle.kn_facing.proofs.StepLemmas.{Lower, itself, changed, steps_keep_faces, awaits_back}
+use Rattle.kn_facing.proofs.StepLemmas.{itself, changed, steps_keep_faces, awaits_back}
 use Rattle.kn_facing.proofs.TakenLemmas.{data_is_taken, grant_is_taken, stream_grant_is_taken}
 
 -- ---- what the end that writes knows of the other, as it will be
@@ -93,8 +92,10 @@ knows k a b ab ba h = record {
   where
     room : reply_bytes (emptied b).out + 17 * asking ab ≤ reply_limit
     room = let none = none_waits in let few = h.to_b.replies in omega (arith, none, few)
+
     run : Runs (emptied b) ab
     run = runs k.keep (emptied b) ab (holds_emptied b h.end_b.holds) h.end_b.goes h.to_b.limits h.to_b.taken room
+
     ahead : Ahead (emptied b) ab
     ahead = ahead_of k (emptied b) ab (holds_emptied b h.end_b.holds) h.end_b.goes h.end_b.initial h.to_b.limits h.to_b.taken room
 
@@ -196,7 +197,7 @@ grant_frames : (s : State) (n : ℕ) (st : Stream) → stream_at s.streams n ≡
 unfolding move_frames
 grant_frames s n st e = ap (λ (o : Option Stream). made_frames s (Grant n) o) e
 
-not_zero : (s : State) (n : ℕ) (st : Stream) → Holds s → stream_at s.streams n ≡ Some st → eqb n 0 ≡ false
+pub not_zero : (s : State) (n : ℕ) (st : Stream) → Holds s → stream_at s.streams n ≡ Some st → eqb n 0 ≡ false
 not_zero s n st holds at = ne_eqb n 0 (λ e. contrary (above_0 s n st holds at) (ap (λ (k : ℕ). eqb 0 k) e))
   where
     contrary : eqb 0 n ≡ false → eqb 0 n ≡ true → ⊥
@@ -216,16 +217,22 @@ grant_one s u n w ok =
   where
     here : (st : Stream) × IsFound s.streams n is_owed st
     here = found_open s.streams n is_owed (move_parts s (Grant n) ok).due
+
     st : Stream
     st = here.0
+
     found : stream_at s.streams n ≡ Some st
     found = here.1.found
+
     sum : HasSum st
     sum = all_at HasSum s.streams n st w.own.holds.sums found
+
     room : HasRoom st
     room = all_at HasRoom s.streams n st w.own.holds.rooms found
+
     some : 0 < st.owed
     some = let many : grant_size ≤ st.owed = leb-true grant_size st.owed (and_parts st.peer_open (nat_le grant_size st.owed) here.1.passed).1 in omega (arith, many)
+
     fits : on_open u.streams n (λ c. not (can_grow c.send (pos st.owed))) ≡ false
     fits = no_open u.streams n (λ c. not (can_grow c.send (pos st.owed)))
         (λ c at up. ap not (may_grow c.send st.owed (small_sum c.send st.receive st.owed (length st.text) stream_window (w.grant n c.send st.receive (inl (c, at, up, refl)) (inl (st, found, here.1.opened, refl))) sum (omega arith))))
@@ -246,20 +253,27 @@ send_above u n text = by_found (stream_at u.streams n)
   where
     f : Frame
     f = frame 0 0 n text
+
     v : State
     v = record u { began = true }
+
     same : (t : State) → t.role ≡ u.role → t.began ≡ true → t.block ≡ u.block → t.decoder ≡ u.decoder → t.opened ≡ u.opened → ((m : ℕ) → Upper u m (stream_at t.streams m)) → Above u t
     same t a b c d e g = record { role = a; began = b; block = c; decoder = d; opened = e; upper = g }
+
     unchanged : (m : ℕ) → Upper u m (stream_at u.streams m)
     unchanged m = upper_itself u m (stream_at u.streams m) refl
+
     changed_one : (m : ℕ) → Upper u m (stream_at (change u.streams n (with_text (length text) (content f))) m)
     changed_one m = at_change (Upper u m) u.streams n m (with_text (length text) (content f)) (λ st. refl) (λ st q. q) (unchanged m)
+
     told : (b : Bool) → Above u (if b then data_taken f v else event (data_taken f v) (Text n))
     told true = same (data_taken f v) refl refl refl refl refl changed_one
     told false = same (event (data_taken f v) (Text n)) refl refl refl refl refl changed_one
+
     by_open : (b : Bool) → Above u (if b then data_in f v else data_dropped f v)
     by_open true = told (length (content f) == 0)
     by_open false = same (data_dropped f v) refl refl refl refl refl unchanged
+
     by_found : (o : Option Stream) → Above u (data_of f v o)
     by_found None = same (data_dropped f v) refl refl refl refl refl unchanged
     by_found (Some st) = by_open (is_open st)
@@ -305,20 +319,27 @@ send_text s u n count w ok =
   where
     here : (st : Stream) × IsFound s.streams n (can_send count s.send) st
     here = found_open s.streams n (can_send count s.send) (move_parts s (Send n count) ok).due
+
     st : Stream
     st = here.0
+
     found : stream_at s.streams n ≡ Some st
     found = here.1.found
+
     parts : IsSendable count s.send st
     parts = send_parts count s.send st here.1.passed
+
     text : List ℕ
     text = take count st.queue
+
     long : length text ≡ count
     long = let e = length-take count st.queue in let fits = parts.queued in omega (arith, e, fits)
+
     served : (c d : Bool) → c ≡ not d → c ≡ true → d ≡ false
     served true true e g = absurd cc
     served true false e g = refl
     served false d e g = absurd cc
+
     answered : is_client u.role ≡ true → st.answered ≡ true
     answered client = by_answer st.answered refl
       where
@@ -327,6 +348,7 @@ send_text s u n count w ok =
         by_answer false e =
             let nothing = (w.own.first (served (is_client u.role) (is_client s.role) w.other client) n st found e).0 in
             let some = parts.some in let fits = parts.queued in absurd (omega (arith, nothing, some, fits))
+
     by_role : (c : Bool) → is_client u.role ≡ c → (is_client u.role && on_open u.streams n (λ c. not c.answered)) ≡ false
     by_role true client =
         ap (λ (b : Bool). is_client u.role && b) (no_open u.streams n (λ c. not c.answered) (λ c at up. ap not (w.followed.heads client n st c found at up ∙ answered client))) ∙ none_and (is_client u.role)

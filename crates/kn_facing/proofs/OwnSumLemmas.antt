@@ -1,5 +1,5 @@
 -- The two windows of a stream, through what an end does of its own.
-use Rattle.std.proofs.Common.{◌≡◌, ◌≢◌, ◌⊎◌, inl, inr, ◌<◌, ◌≤◌, ◌+◌, ℤ, pos, ◌+ℤ◌, ◌-ℤ◌, ℕ, zero, suc, Bool, true, false, cond, eqb, nat_lt, List, [], ◌∷◌, ◌++◌, length, take, Option, Some, None, IfSome, refl, sym, ap, ◌∙◌, subst, arith, if◌then◌else◌}
+use Rattle.std.proofs.Common.{◌≡◌, ◌≢◌, ◌⊎◌, inl, inr, ◌<◌, ◌+◌, ℤ, pos, ◌+ℤ◌, ◌-ℤ◌, ℕ, zero, suc, Bool, true, false, nat_lt, List, [], ◌∷◌, ◌++◌, length, take, Option, Some, None, IfSome, refl, sym, ap, ◌∙◌, subst, arith, if◌then◌else◌}
 use Rattle.std.specs.Prelude.{◌==◌}
 use Rattle.std.proofs.lemmas.Int.{ints}
 use Rattle.std.proofs.lemmas.Bool.{eqb-true, ne_eqb}
@@ -11,7 +11,7 @@ use Rattle.kn_h2_state.specs.declared.stream.Stream.{Stream}
 use Rattle.kn_h2_state.specs.declared.state.State.{State}
 use Rattle.kn_h2_state.specs.Limits.{stream_window, default_window, reply_limit}
 use Rattle.kn_h2_state.specs.Outgoing.{put, reply_bytes}
-use Rattle.kn_h2_state.specs.Streams.{stream_at, change, tidied, is_open, is_kept}
+use Rattle.kn_h2_state.specs.Streams.{stream_at, change, is_open}
 use Rattle.kn_h2_state.specs.Effects.{reply, fail, new_stream}
 use Rattle.kn_h2_state.specs.Moves.{may, made, target, after_move, headers_frames}
 use Rattle.kn_h2_state.specs.Calls.{queue_in, queue_of, with_taken, with_queued, with_finish, next_number, after_take, after_begin, after_queue, after_finish, after_answer, after_took}
@@ -23,7 +23,7 @@ use Rattle.kn_h2.specs.Sending.{MoveKeeps}
 use Rattle.kn_h2.specs.Windows.{MoveShifts}
 use Rattle.kn_h2.specs.Written.{granted_by}
 use Rattle.kn_h2_state.proofs.OtherLaws.{either, reply_streams}
-use Rattle.kn_h2_state.proofs.BorneLemmas.{Rises, rises, climbing, rises_change, none_above, at_change, at_tidied, at_push}
+use Rattle.kn_h2_state.proofs.BorneLemmas.{rises, climbing, rises_change, none_above, at_change, at_tidied, at_push}
 use Rattle.kn_facing.specs.Sums.{MayCome, MayGo, LeavesWindows, MovesShiftBoth, CallsLeaveBoth}
 use Rattle.kn_facing.proofs.FollowedLemmas.{is_known}
 
@@ -105,6 +105,7 @@ moves_shift_both heard keeps shift s m n holds own allowed some = record { goes 
   where
     young : s.opened < n → stream_at s.streams n ≡ None
     young above = none_above 0 s.opened n s.streams (rises 0 s.opened s.streams holds.rising) above
+
     goes : (x : ℤ) → MayGo (after_move s m) n x → MayGo s n (x +ℤ pos (length (moved_text n s m)))
     goes x (inl (b, found, up, is)) =
         let was = was_open heard keeps s m n b holds own allowed found up in
@@ -112,6 +113,7 @@ moves_shift_both heard keeps shift s m n holds own allowed some = record { goes 
     goes x (inr (above, is)) =
         let below : s.opened < n = subst (λ (k : ℕ). k < n) (move_opened s m) above in
         inr (below, none_more x (pos default_window) (length (moved_text n s m)) (nothing_sent s m n (young below)) is)
+
     comes : (y : ℤ) → MayCome (after_move s m) n y → MayCome s n (y -ℤ pos (granted_by n s m))
     comes y (inl (b, found, up, is)) =
         let was = was_open heard keeps s m n b holds own allowed found up in
@@ -136,6 +138,7 @@ leaves s t n same was = record { goes = goes; comes = comes }
     goes : (x : ℤ) → MayGo t n x → MayGo s n x
     goes x (inl (b, found, up, is)) = let w = subst (λ (o : Option Stream). Was s n o) found was up in inl (w.0, w.1, w.2, is ∙ w.4)
     goes x (inr (above, is)) = inr (subst (λ (k : ℕ). k < n) same above, is)
+
     comes : (y : ℤ) → MayCome t n y → MayCome s n y
     comes y (inl (b, found, up, is)) = let w = subst (λ (o : Option Stream). Was s n o) found was up in inl (w.0, w.1, w.2, is ∙ w.3)
     comes y (inr (above, is)) = inr (subst (λ (k : ℕ). k < n) same above, is)
@@ -201,8 +204,10 @@ begin_leaves s n fields first = record { goes = goes; comes = comes }
     both =
         at_push (WasOrYoung s n) s.streams n (new_stream (next_number s) s)
         (λ e up. inr (subst (λ (k : ℕ). s.opened < k) e (next_above s), refl, refl)) (itself_or s n (stream_at s.streams n) refl)
+
     raised : next_number s < n → s.opened < n
     raised above = let up = next_above s in omega (arith, up, above)
+
     goes : (x : ℤ) → MayGo (after_begin fields s) n x → MayGo s n x
     goes x (inl (b, found, up, is)) = by_case (subst (λ (o : Option Stream). WasOrYoung s n o) found both up)
       where
@@ -211,6 +216,7 @@ begin_leaves s n fields first = record { goes = goes; comes = comes }
         by_case (inl (a, at, open_a, receive, send)) = inl (a, at, open_a, is ∙ send)
         by_case (inr (above, receive, send)) = inr (above, is ∙ (send ∙ ap (λ (i : ℕ). pos i) first))
     goes x (inr (above, is)) = inr (raised above, is)
+
     comes : (y : ℤ) → MayCome (after_begin fields s) n y → MayCome s n y
     comes y (inl (b, found, up, is)) = by_case (subst (λ (o : Option Stream). WasOrYoung s n o) found both up)
       where

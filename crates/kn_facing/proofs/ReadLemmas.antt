@@ -1,7 +1,6 @@
 -- A frame that an end reads, and what it may write next.
-use Rattle.std.proofs.Common.{◌≡◌, ◌⊎◌, inl, inr, ◌<◌, ◌≤◌, ◌+ℤ◌, ◌-ℤ◌, pos, ◌||◌, ℕ, Bool, true, false, not, List, [], Option, Some, None, IfSome, refl, sym, ap, ◌∙◌, subst, arith, if◌then◌else◌}
+use Rattle.std.proofs.Common.{◌≡◌, ◌⊎◌, inl, inr, ◌<◌, ◌+ℤ◌, ◌-ℤ◌, pos, ℕ, Bool, true, false, not, [], Option, Some, None, IfSome, refl, sym, ap, ◌∙◌, subst, arith, if◌then◌else◌}
 use Rattle.kn_frames.specs.declared.frame.Frame.{Frame}
-use Rattle.kn_hpack.specs.Fields.{Table}
 use Rattle.kn_h2_state.specs.declared.stream.Stream.{Stream}
 use Rattle.kn_h2_state.specs.declared.state.State.{State}
 use Rattle.kn_h2_state.specs.InStep.{IsInStep}
@@ -11,8 +10,7 @@ use Rattle.kn_h2_state.specs.Effects.{with_grant}
 use Rattle.kn_h2_state.specs.Feeding.{after_frame}
 use Rattle.kn_h2_state.specs.Holding.{Holds}
 use Rattle.kn_h2_state.specs.Opening.{FramesOpenAbove, AnsweredIsKept, answered_in}
-use Rattle.kn_h2_state.proofs.BorneLemmas.{Rises, Bears, rises, none_above, borne_frame, borne_start}
-use Rattle.kn_facing.specs.Facing.{IsFollowed, Awaits}
+use Rattle.kn_h2_state.proofs.BorneLemmas.{Bears, rises, none_above, borne_frame, borne_start}
 use Rattle.kn_facing.specs.Laws.{FramesKeepFollowed}
 use Rattle.kn_facing.proofs.FollowedLemmas.{is_known}
 use Rattle.kn_facing.proofs.SteadyLemmas.{Steady, steady_frame}
@@ -89,8 +87,10 @@ frames_keep_followed above kept s t f holds after on v plain other h waits bound
   where
     steady : Steady s (after_frame s f)
     steady = steady_frame s f on v plain
+
     here : is_client (after_frame s f).role ≡ true → is_client s.role ≡ true
     here client = ap is_client (sym steady.role) ∙ client
+
     half : (n : ℕ) (a b : Stream) → stream_at (after_frame s f).streams n ≡ Some a → a.own_open ≡ true → stream_at t.streams n ≡ Some b → is_open b ≡ true → There s n a ⊎ (s.opened < n) → b.peer_open ≡ true
     half n a b at own at_t up (inl (c, was, kept_own)) = h.halves n c b was (kept_own own) at_t up
     half n a b at own at_t up (inr low) = by_role (is_client s.role) refl
@@ -98,6 +98,7 @@ frames_keep_followed above kept s t f holds after on v plain other h waits bound
         by_role : (c : Bool) → is_client s.role ≡ c → b.peer_open ≡ true
         by_role true e = let same = steady.opened e in absurd (is_known (after_frame s f).opened n (after_frame s f).streams a after.rising at (omega (arith, same, low)))
         by_role false e = (waits (other ∙ ap not e) n b low at_t up).0
+
     head : is_client t.role ≡ true → (n : ℕ) (a b : Stream) → stream_at (after_frame s f).streams n ≡ Some a → stream_at t.streams n ≡ Some b → is_open b ≡ true → There s n a ⊎ (s.opened < n)
         → b.answered ≡ a.answered
     head client n a b at at_t up (inl (c, was, kept_own)) =

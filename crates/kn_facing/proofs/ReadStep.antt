@@ -1,17 +1,14 @@
 -- The first frame on its way is read.
-use Rattle.std.proofs.Common.{◌≡◌, ◌<◌, ◌≤◌, ◌+◌, ◌*◌, ℤ, pos, ◌+ℤ◌, ◌-ℤ◌, ◌&&◌, ℕ, Bool, true, false, not, length, List, [], ◌∷◌, ◌++◌, append-nil, Option, Some, None, IfSome, refl, sym, ap, ◌∙◌, subst, arith, if◌then◌else◌}
+use Rattle.std.proofs.Common.{◌≡◌, ◌≤◌, ◌+◌, ℤ, pos, ◌+ℤ◌, ◌-ℤ◌, ◌&&◌, ℕ, Bool, true, false, not, length, List, [], ◌∷◌, ◌++◌, append-nil, Option, Some, None, IfSome, refl, sym, ap, ◌∙◌, subst, arith, if◌then◌else◌}
 use Rattle.std.specs.Prelude.{◌==◌}
-use Rattle.std.specs.List.{AllByRecursion}
 use Rattle.std.proofs.lemmas.Int.{ints}
 use Rattle.kn_frames.specs.declared.frame.Frame.{Frame}
 use Rattle.kn_frames.specs.Frames.{IsWithinLimits}
 use Rattle.kn_h2_state.specs.declared.stream.Stream.{Stream}
 use Rattle.kn_h2_state.specs.declared.state.State.{State}
-use Rattle.kn_h2_state.specs.Limits.{reply_limit}
-use Rattle.kn_h2_state.specs.Outgoing.{nothing_out, reply_bytes}
 use Rattle.kn_h2_state.specs.Payloads.{has, settings_of}
-use Rattle.kn_h2_state.specs.Streams.{stream_at, is_open, shut}
-use Rattle.kn_h2_state.specs.Rules.{is_client, verdict, shifted_one}
+use Rattle.kn_h2_state.specs.Streams.{stream_at, is_open}
+use Rattle.kn_h2_state.specs.Rules.{is_client, shifted_one}
 use Rattle.kn_h2_state.specs.Effects.{effect, settings, with_grant}
 use Rattle.kn_h2_state.specs.Feeding.{judged, after_frame, after_frames}
 use Rattle.kn_h2_state.specs.Holding.{Holds}
@@ -19,14 +16,13 @@ use Rattle.kn_h2_state.specs.Preorder.{HearsMore}
 use Rattle.kn_h2_state.specs.Wire.{frame, frame_grant, grants_in, data_length, data_lengths_in}
 use Rattle.kn_h2_state.proofs.BorneLemmas.{Bears, rises, borne_frame, borne_start}
 use Rattle.kn_h2_state.proofs.PieceLaws.{after_frame-judged, after_frames-append}
-use Rattle.kn_facing.specs.Facing.{emptied, IsFollowed, Awaits, IsPlain, IsTaken, AreTaken, asks, asking}
+use Rattle.kn_facing.specs.Facing.{emptied, IsFollowed, Awaits, IsTaken, AreTaken, asks, asking}
 use Rattle.kn_facing.specs.Laws.{ReadsOnFollowed}
-use Rattle.kn_facing.specs.Sums.{MayCome, MayGo}
-use Rattle.kn_facing.specs.Faces.{all_lengths, AnswersFirst, IsEnd, IsSound, Faces, acknowledged, FramesKeepFaces}
+use Rattle.kn_facing.specs.Faces.{all_lengths, AnswersFirst, IsEnd, IsSound, acknowledged, FramesKeepFaces}
 use Rattle.kn_facing.specs.Taken.{IsListening}
 use Rattle.kn_facing.proofs.CarryLemmas.{hears_left, hears_right, holds_emptied, taken_too, none_waits}
 use Rattle.kn_facing.proofs.FaceLemmas.{Known, turned, Runs, runs, WayOn, Before, way_on}
-use Rattle.kn_facing.proofs.ListSums.{grants-append, lengths-append, all-append, asking-append, all_by-append, Nothing, acks_nothing, grants-first, lengths-first, all-first}
+use Rattle.kn_facing.proofs.ListSums.{grants-append, lengths-append, all-append, asking-append, all_by-append, acks_nothing, grants-first, lengths-first, all-first}
 use Rattle.kn_facing.proofs.ReadLemmas.{frames_keep_followed}
 use Rattle.kn_facing.proofs.RoomLemmas.{Replied, most, few_replies, one_open, opened_on}
 use Rattle.kn_facing.proofs.SteadyLemmas.{Steady, steady_frame}
@@ -114,6 +110,7 @@ sound_acks a s ba f on h = by_test ((f.kind == 4) && not (has f 1))
   where
     listens : IsListening (after_frames (emptied a) ba)
     listens = record { began = h.followed.began; block = h.followed.block }
+
     with_ack : IsSound a (ba ++ ack ∷ []) s
     with_ack = record {
       limits = all_by-append IsWithinLimits ba (ack ∷ []) h.limits (record { payload = omega arith; stream = omega arith }, tt);
@@ -122,6 +119,7 @@ sound_acks a s ba f on h = by_test ((f.kind == 4) && not (has f 1))
       awaits = subst (λ (t : State). Awaits s t) (sym (ack_last (emptied a) ba on listens)) h.awaits;
       replies = let e = asking-append ba (ack ∷ []) in let few = h.replies in omega (arith, e, few);
     }
+
     by_test : (b : Bool) → IsSound a (ba ++ (if b then ack ∷ [] else [])) s
     by_test true = with_ack
     by_test false = subst (λ (fs : List Frame). IsSound a fs s) (sym (append-nil ba)) h
@@ -170,32 +168,46 @@ frames_keep_faces k a b f ab ba h = record {
   where
     e : IsEnd b
     e = h.end_b
+
     w : IsSound b (f ∷ ab) a
     w = h.to_b
+
     x : State
     x = after_frame (emptied b) f
+
     holds_e : Holds (emptied b)
     holds_e = holds_emptied b e.holds
+
     taken_e : IsTaken (emptied b) f
     taken_e = w.taken.0
+
     hears_e : HearsMore (emptied b) b
     hears_e = hears_left b b (k.steps b e.holds e.facts.known).none
+
     taken_b : IsTaken b f
     taken_b = taken_too k.heard (emptied b) b f e.holds hears_e taken_e
+
     replied_x : Replied (most (asks f)) (emptied b) x
     replied_x = few_replies (emptied b) f e.goes taken_e.kept (let none = none_waits in let few = w.replies in omega (arith, none, few))
+
     replied_b : Replied (most (asks f)) b (after_frame b f)
     replied_b = few_replies b f e.goes taken_b.kept (let few = w.replies in omega (arith, few))
+
     holds_x : Holds x
     holds_x = k.keep (emptied b) f holds_e w.limits.0
+
     holds_b : Holds (after_frame b f)
     holds_b = k.keep b f e.holds w.limits.0
+
     hears_x : HearsMore x (after_frame b f)
     hears_x = k.frames (emptied b) b f holds_e e.holds hears_e e.goes e.goes taken_e.kept (λ server. one_open b.opened b.streams e.holds.rising e.one) (λ server. one_open b.opened b.streams e.holds.rising e.one)
+
     steady_x : Steady (emptied b) x
     steady_x = steady_frame (emptied b) f e.goes taken_e.kept taken_e.plain
+
     steady_b : Steady b (after_frame b f)
     steady_b = steady_frame b f e.goes taken_b.kept taken_b.plain
+
     before : Before a x ab
     before = record {
       holds = holds_x;
@@ -207,38 +219,47 @@ frames_keep_faces k a b f ab ba h = record {
       awaits = w.awaits;
       room = let none = none_waits in let few = replied_x.few in let all = w.replies in omega (arith, none, few, all);
     }
+
     same_opened : is_client x.role ≡ true → (after_frame b f).opened ≡ x.opened
     same_opened client = let here : is_client b.role ≡ true = ap is_client (sym steady_x.role) ∙ client in steady_b.opened here ∙ sym (steady_x.opened here)
+
     way : WayOn a (emptied (after_frame b f)) ab
     way =
         way_on k a x (emptied (after_frame b f)) ab h.end_a.holds h.end_a.one before (holds_emptied (after_frame b f) holds_b) replied_b.goes (hears_right x (after_frame b f) hears_x) same_opened
         (let none = none_waits in let all = w.replies in omega (arith, none, all))
+
     client_of : (c d : Bool) → c ≡ not d → c ≡ false → d ≡ true
     client_of c true g i = refl
     client_of c false g i = absurd cc
+
     server_of : (c d : Bool) → c ≡ not d → d ≡ true → c ≡ false
     server_of c true g i = g
     server_of c false g i = absurd cc
+
     below : is_client b.role ≡ false → (after_frame b f).opened ≤ a.opened
     below server =
         let same = hears_x.server (ap is_client steady_x.role ∙ server) in
         let up = opened_on k.above k.keep x ab holds_x w.limits.1 in
         let all = w.followed.opened (client_of (is_client b.role) (is_client a.role) h.other server) in
         omega (arith, same, up, all)
+
     one : (after_frame b f).opened ≤ 1
     one = by_role (is_client b.role) refl
       where
         by_role : (c : Bool) → is_client b.role ≡ c → (after_frame b f).opened ≤ 1
         by_role true client = let same = steady_b.opened client in let few = e.one in omega (arith, same, few)
         by_role false server = let low = below server in let few = h.end_a.one in omega (arith, low, few)
+
     run_a : Runs (emptied a) ba
     run_a = runs k.keep (emptied a) ba (holds_emptied a h.end_a.holds) h.end_a.goes h.to_a.limits h.to_a.taken (let none = none_waits in let few = h.to_a.replies in omega (arith, none, few))
+
     bound : is_client (after_frames (emptied a) ba).role ≡ true → (after_frame b f).opened ≤ (after_frames (emptied a) ba).opened
     bound client =
         let here : is_client a.role ≡ true = ap is_client (sym run_a.steady.role) ∙ client in
         let same = run_a.steady.opened here in
         let low = below (server_of (is_client b.role) (is_client a.role) h.other here) in
         omega (arith, same, low)
+
     kept : ReadsOnFollowed (after_frame b f) (after_frames (emptied a) ba)
     kept =
         frames_keep_followed k.above k.answered b (after_frames (emptied a) ba) f e.holds holds_b e.goes taken_b.kept taken_b.plain

@@ -1,9 +1,9 @@
 -- Reply frames to a list of frames, and the streams that are open.
-use Rattle.std.proofs.Common.{◌≡◌, ◌<◌, ◌≤◌, ◌+◌, ◌*◌, ◌%◌, ◌+ℤ◌, pos, ◌&&◌, ◌||◌, ℕ, zero, suc, Bool, true, false, not, nat_lt, nat_le, length, List, [], ◌∷◌, ◌++◌, Option, Some, None, Result, Ok, Err, refl, sym, ap, ◌∙◌, subst, arith, eqb, length-append, if◌then◌else◌}
+use Rattle.std.proofs.Common.{◌≡◌, ◌<◌, ◌≤◌, ◌+◌, ◌*◌, ◌%◌, ◌+ℤ◌, pos, ◌&&◌, ◌||◌, ℕ, Bool, true, false, not, nat_lt, nat_le, length, List, [], ◌∷◌, ◌++◌, Option, Some, None, Result, Ok, Err, refl, sym, ap, ◌∙◌, subst, arith, length-append, if◌then◌else◌}
 use Rattle.std.specs.Prelude.{◌==◌}
 use Rattle.std.specs.Int.{to_be_bytes, w32}
 use Rattle.std.specs.List.{AllByRecursion}
-use Rattle.std.proofs.lemmas.Bool.{ltb-true, eqb-true, and_parts, or_parts, not-false}
+use Rattle.std.proofs.lemmas.Bool.{ltb-true, eqb-true}
 use Rattle.kn_frames.specs.declared.frame.Frame.{Frame}
 use Rattle.kn_frames.specs.Frames.{spelled, head, IsWithinLimits}
 use Rattle.kn_hpack.specs.Fields.{Field}
@@ -17,7 +17,7 @@ use Rattle.kn_h2_state.specs.Outgoing.{Out, put, reply_bytes}
 use Rattle.kn_h2_state.specs.Streams.{stream_at, change, is_open, open_count, shut}
 use Rattle.kn_h2_state.specs.Payloads.{has, content, number_at, increment_of, settings_of, reset_frame}
 use Rattle.kn_h2_state.specs.Heads.{is_malformed_request, is_malformed_response, is_informational}
-use Rattle.kn_h2_state.specs.Rules.{is_client, block_with, ends_block, shifted, first_broken, frame_rules, has_wrong_length, verdict}
+use Rattle.kn_h2_state.specs.Rules.{is_client, block_with, ends_block, shifted, has_wrong_length, verdict}
 use Rattle.kn_h2_state.specs.Effects.{event, reply, fail, on_stream, peer_ends, if_open, data_taken, text_told, ended_if, data_in, data_dropped, data_of, new_stream, opens, accepted, request, headed, refused_response, response, head_of, decoded, block_ends, block_grown, block_of_headers, cut_off, reset_of, after_setting, after_settings, settings, ping, goaway, with_grant, window_update, effect}
 use Rattle.kn_h2_state.specs.Feeding.{judged, after_frame, after_frames}
 use Rattle.kn_h2_state.specs.Holding.{Holds, Rising}
@@ -25,8 +25,6 @@ use Rattle.kn_h2_state.specs.Preorder.{Accepts, HasRoomFor}
 use Rattle.kn_h2_state.specs.Opening.{FramesOpenAbove}
 use Rattle.kn_h2_state.proofs.OtherLaws.{either, open_or}
 use Rattle.kn_h2_state.proofs.PieceLaws.{after_frame-judged}
-use Rattle.kn_h2_state.proofs.PreorderLaws.{silent}
-use Rattle.kn_h2_state.proofs.VerdictFacts.{none_holds}
 use Rattle.kn_h2.proofs.HoldsLemmas.{replies_more}
 use Rattle.kn_h2.proofs.RuleLemmas.{passes_rules}
 use Rattle.kn_facing.specs.Facing.{asks, asking}

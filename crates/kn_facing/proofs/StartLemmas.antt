@@ -1,5 +1,5 @@
 -- A new client's end and a new server's face each other.
-use Rattle.std.proofs.Common.{◌≡◌, ◌≢◌, ◌⊎◌, inl, inr, ◌<◌, ◌≤◌, ◌+◌, ◌*◌, ◌-◌, ℤ, pos, ◌+ℤ◌, ◌-ℤ◌, ◌&&◌, ℕ, Bool, true, false, not, eqb, nat_lt, length, List, [], ◌∷◌, ◌++◌, Option, Some, None, refl, sym, ap, ◌∙◌, subst, arith, if◌then◌else◌}
+use Rattle.std.proofs.Common.{◌≡◌, ◌≢◌, inl, inr, ◌≤◌, ◌+◌, ◌-◌, ℤ, pos, ◌+ℤ◌, ℕ, Bool, true, false, not, nat_lt, length, List, [], ◌∷◌, ◌++◌, Option, Some, None, refl, sym, ap, ◌∙◌, subst, arith, if◌then◌else◌}
 use Rattle.std.specs.Prelude.{◌==◌}
 use Rattle.std.specs.Int.{to_be_bytes, w32}
 use Rattle.std.specs.List.{AllByRecursion}
@@ -13,10 +13,10 @@ use Rattle.kn_h2_state.specs.declared.stream.Stream.{Stream}
 use Rattle.kn_h2_state.specs.declared.state.State.{State}
 use Rattle.kn_windows.specs.Windows.{can_grow}
 use Rattle.kn_h2_state.specs.InStep.{IsInStep}
-use Rattle.kn_h2_state.specs.Limits.{default_window, connection_window, stream_window, stream_limit, list_limit, reply_limit}
-use Rattle.kn_h2_state.specs.Outgoing.{nothing_out, put, reply_bytes, count_true}
-use Rattle.kn_h2_state.specs.Payloads.{has, setting_text, settings_of, increment_of}
-use Rattle.kn_h2_state.specs.Streams.{stream_at, is_open}
+use Rattle.kn_h2_state.specs.Limits.{default_window, connection_window, stream_limit, list_limit, reply_limit}
+use Rattle.kn_h2_state.specs.Outgoing.{nothing_out, put, reply_bytes}
+use Rattle.kn_h2_state.specs.Payloads.{setting_text, settings_of, increment_of}
+use Rattle.kn_h2_state.specs.Streams.{stream_at}
 use Rattle.kn_h2_state.specs.Rules.{is_client, shifted, verdict}
 use Rattle.kn_h2_state.specs.Effects.{reply, fail, after_setting, after_settings, settings, window_update, effect}
 use Rattle.kn_h2_state.specs.Feeding.{judged, after_frame, after_frames}
@@ -26,16 +26,15 @@ use Rattle.kn_h2_state.specs.Preorder.{OwnFactsBegin}
 use Rattle.kn_h2_state.specs.Wire.{frame, frame_grant, grants_in, data_length, data_lengths_in}
 use Rattle.kn_h2_state.proofs.OtherLaws.{either}
 use Rattle.kn_h2_state.proofs.PieceLaws.{after_frame-judged}
-use Rattle.kn_h2.specs.Written.{opening_list}
 use Rattle.kn_h2.proofs.ConnBounds.{holds_fresh}
 use Rattle.kn_h2.proofs.HoldsLemmas.{replies_same}
 use Rattle.kn_h2.proofs.WrittenLemmas.{opening_is_written}
-use Rattle.kn_facing.specs.Facing.{emptied, IsFollowed, Awaits, IsPlain, IsTaken, AreTaken, asks, asking}
-use Rattle.kn_facing.specs.Sums.{MayCome, MayGo, StreamSum}
-use Rattle.kn_facing.specs.Faces.{all_lengths, IsEnd, IsSound, Faces, FacesBegin}
+use Rattle.kn_facing.specs.Facing.{emptied, IsPlain, AreTaken, asks, asking}
+use Rattle.kn_facing.specs.Sums.{StreamSum}
+use Rattle.kn_facing.specs.Faces.{all_lengths, IsEnd, IsSound, FacesBegin}
 use Rattle.kn_facing.specs.Taken.{IsListening}
 use Rattle.kn_facing.proofs.CarryLemmas.{holds_emptied, none_waits}
-use Rattle.kn_facing.proofs.RoomLemmas.{Replied, most, few_replies, Keeps}
+use Rattle.kn_facing.proofs.RoomLemmas.{most, few_replies, Keeps}
 use Rattle.kn_facing.proofs.TakenLemmas.{client_settings_are_taken, server_settings_are_taken, grant_is_taken}
 
 -- ---- an end without streams reads an opening
@@ -117,20 +116,26 @@ begun keep t payload holds on bare room limits v plain = record {
   where
     one : State
     one = after_frame t (first_frame payload)
+
     to_one : one ≡ effect (record t { began = true }) (first_frame payload)
     to_one = after_frame-judged t (first_frame payload) on ∙ ap (λ o. judged t (first_frame payload) o) v
+
     next : Bare one
     next = subst Bare (sym to_one) (bare_first (record t { began = true }) payload (record { block = bare.block; opened = bare.opened; streams = bare.streams; send = bare.send }))
+
     goes : one.failed ≡ None
     goes = (few_replies t (first_frame payload) on v (at_most (asks (first_frame payload)))).goes
       where
         at_most : (b : Bool) → reply_bytes t.out + most b ≤ reply_limit
         at_most true = omega (arith, room)
         at_most false = omega (arith, room)
+
     listens : IsListening one
     listens = record { began = ap (λ (u : State). u.began) to_one ∙ began_first (record t { began = true }) payload refl; block = next.block }
+
     second : verdict one grant ≡ None
     second = grant_is_taken one raise (keep t (first_frame payload) holds limits) listens (omega arith) (omega arith) (ap (λ (z : ℤ). can_grow z (pos raise)) next.send)
+
     to_last : after_frame one grant ≡ record one { began = true; send = one.send +ℤ pos (increment_of (to_be_bytes w32 raise)) }
     to_last = after_frame-judged one grant goes ∙ ap (λ o. judged one grant o) second
 
@@ -254,5 +259,6 @@ faces_begin facts keep = record {
   where
     client : New (fresh_state Client)
     client = new facts Client
+
     server : New (fresh_state Server)
     server = new facts Server

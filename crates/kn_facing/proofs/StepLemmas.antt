@@ -1,6 +1,5 @@
 -- What an end does of its own, while two ends face each other.
-use Rattle.std.proofs.Common.{◌≡◌, ◌≢◌, ◌⊎◌, inl, inr, eqb, ◌<◌, ◌≤◌, ◌+◌, ◌*◌, ℤ, pos, ◌+ℤ◌, ◌-ℤ◌, ◌&&◌, ℕ, zero, suc, Bool, true, false, not, length, drop, List, [], ◌∷◌, ◌++◌, append-nil, Option, Some, None, IfSome, refl, sym, ap, ◌∙◌, subst, arith, if◌then◌else◌}
-use Rattle.std.specs.List.{AllByRecursion}
+use Rattle.std.proofs.Common.{◌≡◌, ◌≢◌, eqb, ◌≤◌, ◌+◌, ◌*◌, ℤ, pos, ◌+ℤ◌, ◌-ℤ◌, ℕ, zero, suc, Bool, true, false, not, length, drop, List, [], ◌∷◌, ◌++◌, append-nil, Option, Some, None, IfSome, refl, sym, ap, ◌∙◌, subst, arith}
 use Rattle.std.proofs.lemmas.Int.{ints}
 use Rattle.std.proofs.lemmas.Bool.{eqb-true, eqb-false}
 use Rattle.kn_frames.specs.declared.frame.Frame.{Frame}
@@ -10,15 +9,14 @@ use Rattle.kn_h2_state.specs.declared.stream.Stream.{Stream}
 use Rattle.kn_h2_state.specs.declared.state.State.{State}
 use Rattle.kn_h2_state.specs.InStep.{IsInStep}
 use Rattle.kn_h2_state.specs.Limits.{reply_limit}
-use Rattle.kn_h2_state.specs.Outgoing.{nothing_out, reply_bytes, count_true, reply_part}
-use Rattle.kn_h2_state.specs.Streams.{stream_at, change, tidied, is_open, is_kept, passes, on_open}
+use Rattle.kn_h2_state.specs.Outgoing.{reply_bytes, count_true}
+use Rattle.kn_h2_state.specs.Streams.{stream_at, change}
 use Rattle.kn_h2_state.specs.Rules.{is_client}
-use Rattle.kn_h2_state.specs.Feeding.{after_frame, after_frames}
+use Rattle.kn_h2_state.specs.Feeding.{after_frames}
 use Rattle.kn_h2_state.specs.Calls.{text_of, refusal, queue_refusal, takes_more, with_taken, with_queued, with_finish, after_take, after_queue, after_finish, after_took}
-use Rattle.kn_h2_state.specs.Holding.{Holds}
 use Rattle.kn_h2_state.specs.Preorder.{HearsMore}
 use Rattle.kn_h2_state.specs.Wire.{grants_in, data_lengths_in}
-use Rattle.kn_h2_state.proofs.BorneLemmas.{Rises, rises, climbing, rises_change, at_change, at_tidied}
+use Rattle.kn_h2_state.proofs.BorneLemmas.{rises, climbing, rises_change, at_change, at_tidied}
 use Rattle.kn_h2_state.specs.Opening.{answered_in}
 use Rattle.kn_h2_state.proofs.OtherLaws.{calls_leave_others}
 use Rattle.kn_h2_state.proofs.SeenLemmas.{Climbs, at_changed}
@@ -28,9 +26,9 @@ use Rattle.kn_h2.proofs.CallBounds.{holds_take, holds_took, holds_queue, holds_f
 use Rattle.kn_facing.specs.Facing.{emptied, IsFollowed, Awaits, AreTaken, asking}
 use Rattle.kn_facing.specs.Laws.{AreTakenToo}
 use Rattle.kn_facing.specs.Sums.{MayCome, MayGo, LeavesWindows}
-use Rattle.kn_facing.specs.Faces.{all_lengths, AnswersFirst, IsEnd, IsSound, Faces, IsStep, IsAnsweredAt, StepsKeepFaces, TakesKeepFaces, TookKeepsFaces, QueuesKeepFaces, FinishesKeepFaces}
+use Rattle.kn_facing.specs.Faces.{all_lengths, AnswersFirst, IsEnd, Faces, IsStep, IsAnsweredAt, StepsKeepFaces, TakesKeepFaces, TookKeepsFaces, QueuesKeepFaces, FinishesKeepFaces}
 use Rattle.kn_facing.proofs.CarryLemmas.{hears_emptied, holds_emptied, none_waits}
-use Rattle.kn_facing.proofs.FaceLemmas.{Known, turned, WayOn, Before, way_on, way_taken, way_followed}
+use Rattle.kn_facing.proofs.FaceLemmas.{Known, turned, Before, way_on, way_taken, way_followed}
 use Rattle.kn_facing.proofs.ListSums.{grants-append, lengths-append, all-append, all_by-append}
 use Rattle.kn_facing.proofs.OwnSumLemmas.{calls_leave_both}
 use Rattle.kn_facing.proofs.ReadStep.{taken_join}
@@ -51,7 +49,7 @@ all_comes_sum x y y' g dd gg gg' e k f = omega (arith, ints, e, k, f)
 
 -- ---- what comes to the end that does a step
 
-back_before : (a b : State) (ab ba : List Frame) → Faces a b ab ba → Before b (emptied a) ba
+pub back_before : (a b : State) (ab ba : List Frame) → Faces a b ab ba → Before b (emptied a) ba
 back_before a b ab ba h = record {
   holds = holds_emptied a h.end_a.holds;
   goes = h.end_a.goes;
@@ -103,6 +101,7 @@ steps_keep_faces k a b t fs ab ba h step waits room room_b = record {
   where
     joined : after_frames (emptied b) (ab ++ fs) ≡ after_frames (after_frames (emptied b) ab) fs
     joined = after_frames-append (emptied b) ab fs
+
     back : AreTakenToo (emptied a) (emptied t) ba
     back = taken_back k a b t ab ba h step.still step.hears
 
@@ -165,6 +164,7 @@ silently k a b t ab ba h c =
   where
     u : State
     u = after_frames (emptied b) ab
+
     step : IsStep a t [] u
     step = record {
       still = c.still;
@@ -223,6 +223,7 @@ take_silently k s n count e fits = record {
   where
     climbs : Climbs 0 (change s.streams n (with_taken count))
     climbs = climbing 0 s.opened (change s.streams n (with_taken count)) (rises_change 0 s.opened s.streams n (with_taken count) (λ st. refl) (rises 0 s.opened s.streams e.holds.rising))
+
     kept : (m : ℕ) → Keeps s m (stream_at (after_take n count s).streams m)
     kept m =
         at_tidied (Keeps s m) 0 m (change s.streams n (with_taken count)) (λ st q h. tt) climbs
@@ -266,6 +267,7 @@ answered_first s t n f role first answered same own others server m st at e = by
   where
     here : is_client s.role ≡ false
     here = ap is_client (sym role) ∙ server
+
     by_test : (b : Bool) → eqb n m ≡ b → (length st.queue ≡ 0) × (st.finish ≡ None)
     by_test false t = first here m st (sym (others m (eqb-false n m t)) ∙ at) e
     by_test true g =

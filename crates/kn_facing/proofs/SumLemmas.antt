@@ -1,32 +1,31 @@
 -- The two windows of a stream, through frames and what an end does of its own.
-use Rattle.std.proofs.Common.{◌≡◌, ◌≢◌, ◌⊎◌, inl, inr, ◌<◌, ◌≤◌, ◌+◌, ℤ, pos, ◌+ℤ◌, ◌-ℤ◌, ◌≤ℤ◌, ◌&&◌, ◌||◌, ℕ, Bool, true, false, not, cond, eqb, nat_lt, nat_le, List, [], ◌∷◌, ◌++◌, length, take, Option, Some, None, IfSome, Result, Ok, Err, refl, sym, ap, ◌∙◌, subst, arith, if◌then◌else◌}
+use Rattle.std.proofs.Common.{◌≡◌, ◌⊎◌, inl, inr, ◌<◌, ℤ, pos, ◌+ℤ◌, ◌-ℤ◌, ◌&&◌, ℕ, Bool, true, false, eqb, nat_lt, nat_le, List, [], ◌∷◌, ◌++◌, length, Option, Some, None, IfSome, Result, Ok, Err, refl, sym, ap, ◌∙◌, subst, arith, if◌then◌else◌}
 use Rattle.std.specs.Prelude.{◌==◌}
 use Rattle.std.proofs.lemmas.Int.{ints}
-use Rattle.std.proofs.lemmas.Bool.{eqb-true, eqb-false, ltb-true, or_right, and_parts, eq-eqb}
+use Rattle.std.proofs.lemmas.Bool.{eqb-true, eqb-false, or_right, and_parts}
 use Rattle.kn_frames.specs.declared.frame.Frame.{Frame}
 use Rattle.kn_hpack.specs.Fields.{Field}
 use Rattle.kn_hpack.specs.Blocks.{Progress, read_block}
 use Rattle.kn_hpack.specs.declared.fault.HpackFault.{HpackFault}
-use Rattle.kn_h2_state.specs.declared.event.H2Event.{H2Event}
 use Rattle.kn_h2_state.specs.declared.event.H2Event.TheVariants.{Opened}
 use Rattle.kn_h2_state.specs.declared.stream.Stream.{Stream}
 use Rattle.kn_h2_state.specs.declared.state.State.{State}
 use Rattle.kn_h2_state.specs.Limits.{stream_window, default_window, stream_limit}
-use Rattle.kn_h2_state.specs.Streams.{stream_at, change, tidied, is_open, is_kept, open_count, shut}
-use Rattle.kn_h2_state.specs.Payloads.{has, increment_of, reset_frame}
+use Rattle.kn_h2_state.specs.Streams.{stream_at, change, is_open, open_count}
+use Rattle.kn_h2_state.specs.Payloads.{increment_of, reset_frame}
 use Rattle.kn_h2_state.specs.Heads.{is_malformed_request}
-use Rattle.kn_h2_state.specs.Rules.{is_client, block_with, ends_block, shifted_one, verdict}
-use Rattle.kn_h2_state.specs.Effects.{event, reply, peer_ends, on_stream, if_open, with_text, ended_if, new_stream, opens, accepted, request, response, head_of, decoded, block_ends, block_grown, block_of_headers, settings, ping, goaway, with_grant, window_update, reset_of, effect}
+use Rattle.kn_h2_state.specs.Rules.{is_client, block_with, ends_block, verdict}
+use Rattle.kn_h2_state.specs.Effects.{event, reply, peer_ends, if_open, ended_if, new_stream, opens, accepted, request, response, head_of, decoded, block_ends, block_grown, block_of_headers, settings, ping, goaway, with_grant, window_update, effect}
 use Rattle.kn_h2_state.specs.Feeding.{judged, after_frame}
-use Rattle.kn_h2_state.specs.Laws.{Seen, seen, seen_at, FramesLeaveOthers}
+use Rattle.kn_h2_state.specs.Laws.{seen}
 use Rattle.kn_h2_state.specs.Opening.{FramesOpenAbove}
 use Rattle.kn_h2_state.specs.Holding.{Holds}
 use Rattle.kn_h2_state.specs.Wire.{frame_grant, data_length}
 use Rattle.kn_h2.specs.Windows.{FramesShift}
-use Rattle.kn_h2_state.proofs.OtherLaws.{either, open_or, by_kind, reply_streams, alike_all_settings, same_ping, same_goaway, frames_leave_others}
+use Rattle.kn_h2_state.proofs.OtherLaws.{either, by_kind, reply_streams, alike_all_settings, same_ping, same_goaway, frames_leave_others}
 use Rattle.kn_h2_state.proofs.PieceLaws.{after_frame-judged}
 use Rattle.kn_h2_state.proofs.PreorderLaws.{Silent, silent, old_data, old_reset, old_grant, shifted_open}
-use Rattle.kn_h2_state.proofs.BorneLemmas.{Rises, Bears, Borne, rises, climbing, rises_change, rises_push, none_above, at_change, at_tidied, at_push, grant_number, borne_frame, borne_start}
+use Rattle.kn_h2_state.proofs.BorneLemmas.{Rises, Bears, rises, climbing, rises_change, rises_push, none_above, at_change, at_tidied, at_push, grant_number, borne_frame, borne_start}
 use Rattle.kn_facing.specs.Sums.{MayCome, MayGo, FramesTake, FramesGrant}
 
 -- ---- a stream that was not begun before a frame

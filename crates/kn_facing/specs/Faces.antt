@@ -170,3 +170,16 @@ abbrev pub AnswerKeepsFaces : Type 0
 AnswerKeepsFaces = (a b : State) (ab ba : List Frame) (n : ℕ) (fields : List Field) → Faces a b ab ba → is_client a.role ≡ false → refusal takes_more a n ≡ None → on_open a.streams n (λ st. st.answered) ≡ false
     → IsResponse fields → IsOneFrame a.encoder fields → reply_bytes a.out + length (headers_frames n 0 (block_of a.encoder fields)) + 17 * asking ba ≤ 32768
     → reply_bytes b.out + 17 * asking (ab ++ head_list n 0 (block_of a.encoder fields)) ≤ 32768 → Faces (after_answer n fields a) b (ab ++ head_list n 0 (block_of a.encoder fields)) ba
+
+-- ---- the end of a stream
+
+-- A server ends its half of a stream by trailers that stand in one frame, where the reply that they count for has room.
+abbrev pub EndKeepsFaces : Type 0
+EndKeepsFaces = (a b : State) (ab ba : List Frame) (n : ℕ) → Faces a b ab ba → is_client a.role ≡ false → may a (End n) ≡ true
+    → ((st : Stream) (trailers : List Field) → stream_at a.streams n ≡ Some st → st.finish ≡ Some trailers → IsOneFrame a.encoder trailers)
+    → reply_bytes b.out + 17 * asking (ab ++ move_frames a (End n)) ≤ 32768 → Faces (after_move a (End n)) b (ab ++ move_frames a (End n)) ba
+
+-- and tells a client that goes on to stop, where the reply frame has room
+abbrev pub StopKeepsFaces : Type 0
+StopKeepsFaces = (a b : State) (ab ba : List Frame) (n : ℕ) → Faces a b ab ba → is_client a.role ≡ false → may a (Stop n) ≡ true → reply_bytes (after_move a (Stop n)).out + 17 * asking ba ≤ 32768
+    → Faces (after_move a (Stop n)) b (ab ++ move_frames a (Stop n)) ba

@@ -7,7 +7,7 @@ use Rattle.kn_hpack.specs.Fields.{Field}
 use Rattle.kn_hpack.specs.Blocks.{Progress, read_block}
 use Rattle.kn_h2_state.specs.declared.stream.Stream.{Stream}
 use Rattle.kn_h2_state.specs.declared.state.State.{State}
-use Rattle.kn_h2_state.specs.Feeding.{after_frame, after_frames}
+use Rattle.kn_h2_state.specs.Feeding.{after_frame}
 use Rattle.kn_h2_state.specs.InStep.{IsInStep}
 use Rattle.kn_h2_state.specs.Outgoing.{nothing_out}
 use Rattle.kn_h2_state.specs.Payloads.{has, settings_of}
@@ -24,14 +24,10 @@ coming w = frames_in w.to.cutter (wire w)
 abbrev pub emptied : State → State
 emptied s = record s { out = nothing_out; events = [] }
 
--- the end as it will be once it has read all that is on its way
-abbrev pub ahead : Way → State
-ahead w = after_frames (emptied w.to.state) (coming w)
-
 -- ---- one end, and the other as it will be
 
--- What the end s may write next, the other takes, which is t by then: its streams are as open there, and its next header
--- block is read.
+-- What the end s may write next, the other takes, which is t once it has read all that is on its way: its streams are as
+-- open there, and its next header block is read.
 pub record IsFollowed (s t : State) : Type 0 where
   pub began : t.began ≡ true
   pub block : t.block ≡ None

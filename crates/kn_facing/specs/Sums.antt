@@ -1,5 +1,5 @@
 -- What the windows of two ends that face each other come to together (RFC 9113, section 6.9).
-use Rattle.std.specs.Prelude.{◌≡◌, ◌≢◌, ◌⊎◌, ℕ, pos, ◌+◌, ◌+ℤ◌, ◌-ℤ◌, ℤ, ◌<◌, ◌==◌, true, false, List, [], ◌∷◌, length, None, Some, if◌then◌else◌}
+use Rattle.std.specs.Prelude.{◌≡◌, ◌≢◌, ◌⊎◌, ℕ, pos, ◌+◌, ◌+ℤ◌, ◌-ℤ◌, ℤ, ◌<◌, true, List, length, None, Some}
 use Rattle.kn_frames.specs.declared.frame.Frame.{Frame}
 use Rattle.kn_hpack.specs.Fields.{Field}
 use Rattle.kn_h2_state.specs.declared.moves.Move.{Move}
@@ -7,7 +7,7 @@ use Rattle.kn_h2_state.specs.declared.stream.Stream.{Stream}
 use Rattle.kn_h2_state.specs.declared.state.State.{State}
 use Rattle.kn_h2_state.specs.Limits.{stream_window, default_window}
 use Rattle.kn_h2_state.specs.Streams.{stream_at, is_open}
-use Rattle.kn_h2_state.specs.Rules.{is_client, verdict}
+use Rattle.kn_h2_state.specs.Rules.{verdict}
 use Rattle.kn_h2_state.specs.Feeding.{after_frame}
 use Rattle.kn_h2_state.specs.Moves.{may, after_move}
 use Rattle.kn_h2_state.specs.Calls.{after_take, after_begin, after_queue, after_finish, after_answer, after_took}

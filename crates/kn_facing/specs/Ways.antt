@@ -30,24 +30,6 @@ delivered piece rest w = record w { to = after_piece w.to piece; pipe = rest }
 abbrev pub entered : ℕ → Way → Way
 entered count w = record w { pipe = w.pipe ++ take count w.from.state.out.bytes; from = record w.from { state = after_took count w.from.state } }
 
--- each end's state changes
-abbrev pub with_to : (State → State) → Way → Way
-with_to f w = record w { to = record w.to { state = f w.to.state } }
-
+-- the state of the end that writes changes
 abbrev pub with_from : (State → State) → Way → Way
 with_from f w = record w { from = record w.from { state = f w.from.state } }
-
--- ---- both ways
-
--- a connection, from its client's end and its server's
-pub record Pair : Type 0 where
-  pub client : Connection
-  pub server : Connection
-  pub up : List ℕ
-  pub down : List ℕ
-
-abbrev pub upward : Pair → Way
-upward p = record { to = p.server; pipe = p.up; from = p.client }
-
-abbrev pub downward : Pair → Way
-downward p = record { to = p.client; pipe = p.down; from = p.server }

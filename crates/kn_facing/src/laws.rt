@@ -1,6 +1,8 @@
 ghost use Rattle.kn_facing.specs.Taken.{DataIsTaken, LastDataIsTaken, RequestIsTaken, ResponseIsTaken, TrailersAreTaken, ResetIsTaken, GrantIsTaken, StreamGrantIsTaken, ClientSettingsAreTaken, ServerSettingsAreTaken, AcknowledgementIsTaken};
 ghost use Rattle.kn_facing.specs.Sums.{FramesTake, FramesGrant, MovesShiftBoth, CallsLeaveBoth};
-ghost use Rattle.kn_facing.specs.Faces.{FacesTurn, FramesKeepFaces, StepsKeepFaces, TakesKeepFaces, TookKeepsFaces, QueuesKeepFaces, FinishesKeepFaces, FacesBegin, MovesKeepFaces, BeginKeepsFaces, AnswerKeepsFaces};
+ghost use Rattle.kn_facing.specs.Faces.{FacesTurn, FramesKeepFaces, StepsKeepFaces, TakesKeepFaces, TookKeepsFaces, QueuesKeepFaces, FinishesKeepFaces, FacesBegin, MovesKeepFaces, BeginKeepsFaces, AnswerKeepsFaces, EndKeepsFaces, StopKeepsFaces};
+ghost use Rattle.kn_facing.specs.Wires.{WritesBehind, EntersAlike, ReadingKeepsFaces, FacesHaveOneStream, HalvesStayOpen, FacesKeepHalves};
+ghost use Rattle.kn_facing.specs.Pairs.{FacingTurns, FacingBegins, PiecesKeepFacing, EntersKeepFacing, StepsKeepFacing};
 ghost use Rattle.kn_facing.specs.Laws.{AcceptsJoin, AcceptsPart, NoFaultBefore, ReadsOn, OwnStepsTake, StaysFollowed, FewAreRead, MoreAreTaken, FramesKeepFollowed};
 
 /// Frames that come behind others are looked at once these were read.
@@ -206,6 +208,92 @@ pub fn answer_keeps_faces()
     kn_h2_state::own_steps_are_heard();
     kn_h2_state::own_facts_stay();
     kn_h2_state::next_block_is_read();
+    kn_h2::frames_keep();
+    kn_h2::role_stays();
+    kn_h2::windows_follow();
+}
+
+/// So they do where a server ends its half of a stream by trailers that stand in one frame, and where it tells a
+/// client that goes on to stop.
+pub fn ends_keep_faces()
+    ensures trailers { EndKeepsFaces }
+    ensures stops { StopKeepsFaces }
+{
+    kn_h2_state::more_is_heard();
+    kn_h2_state::opened_is_above();
+    kn_h2_state::answered_is_kept();
+    kn_h2_state::own_steps_are_heard();
+    kn_h2_state::own_facts_stay();
+    kn_h2_state::next_block_is_read();
+    kn_h2_state::written_is_read();
+    kn_h2_state::moves_are_written();
+    kn_h2::frames_keep();
+    kn_h2::role_stays();
+    kn_h2::windows_follow();
+    kn_h2::windows_move();
+    kn_h2::written_is_carried();
+    kn_h2::sending_laws();
+}
+
+/// Frames that one end writes come behind those that are on their way, and what goes on its way changes nothing of
+/// what comes.
+pub fn wires_carry_frames()
+    ensures writes { WritesBehind }
+    ensures enters { EntersAlike }
+{
+    kn_h2_state::written_is_read();
+}
+
+/// Two ends that face each other do so once one has read any number of the frames that are on their way to it; it
+/// answers them with what acknowledges SETTINGS, and with nothing else.
+pub fn reading_keeps_faces()
+    ensures { ReadingKeepsFaces }
+{
+    kn_h2_state::more_is_heard();
+    kn_h2_state::opened_is_above();
+    kn_h2_state::answered_is_kept();
+    kn_h2_state::own_steps_are_heard();
+    kn_h2_state::own_facts_stay();
+    kn_h2::frames_keep();
+    kn_h2::role_stays();
+    kn_h2::windows_follow();
+}
+
+/// Of two ends that face each other neither has failed, and neither has a stream but the first, nor text of another.
+pub fn faces_have_one_stream()
+    ensures { FacesHaveOneStream }
+{}
+
+/// Over bytes: a client's end and a server's face each other from the beginning, and go on so where any piece of what
+/// is on its way is delivered, where what waits goes on its way, and after each step of an end's own of which the
+/// other laws say so.
+pub fn facing_goes_on()
+    ensures turns { FacingTurns }
+    ensures begins { FacingBegins }
+    ensures pieces { PiecesKeepFacing }
+    ensures enters { EntersKeepFacing }
+    ensures steps { StepsKeepFacing }
+{
+    faces_begin();
+    calls_keep_faces();
+    wires_carry_frames();
+    reading_keeps_faces();
+    kn_h2_state::written_is_read();
+    kn_h2::calls_are_written();
+    kn_h2::answers_are_written();
+}
+
+/// Frames that are taken, none of which ends a stream, leave the peer's half of it open; so do the first of those that
+/// are on their way between two ends that face each other.
+pub fn halves_stay_open()
+    ensures frames { HalvesStayOpen }
+    ensures faces { FacesKeepHalves }
+{
+    kn_h2_state::more_is_heard();
+    kn_h2_state::opened_is_above();
+    kn_h2_state::answered_is_kept();
+    kn_h2_state::own_steps_are_heard();
+    kn_h2_state::own_facts_stay();
     kn_h2::frames_keep();
     kn_h2::role_stays();
     kn_h2::windows_follow();
