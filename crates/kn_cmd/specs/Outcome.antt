@@ -18,6 +18,7 @@ use Rattle.kn_world.specs.declared.state.State.{State}
 use Rattle.kn_world.specs.Events.{Runs}
 use Rattle.kn_world.specs.States.{start}
 use Rattle.kn_world.specs.Views.{shown}
+use Rattle.kn_refinement.specs.Chosen.{agents_in}
 use Rattle.kn_refinement.specs.Headline.{KeepsPromises}
 use Rattle.kn_script.specs.Lines.{lines_of}
 use Rattle.kn_script.specs.Script.{script_of}
@@ -36,14 +37,16 @@ abbrev pub line_limit : ℕ
 line_limit = 10000
 
 -- The text is the report of a world that these events reach, one after another, from the one in which nothing
--- has happened and dials go by these strategies. This world keeps its promises: bytes stay apart, connections are
--- accounted for, and once all is quiet and closed nothing is left.
+-- has happened and dials go by these strategies. This world keeps its promises: bytes stay apart, no two dials are
+-- of one app, connections are accounted for, each tunnel is in its tables, each dial has a choice of its own, which
+-- is what these strategies pick among links of the agents that these events bring, and once all is quiet and closed
+-- nothing is left.
 pub record ReportsRun (strategies : List Strategy) (events : List WorldEvent) (text : List ℕ) : Type 0 where
   pub world : State
   pub idle : ℕ
   pub reached : Runs events (start strategies) idle world
   pub report : text ≡ report_of (shown world) idle
-  pub promises : KeepsPromises world
+  pub promises : KeepsPromises strategies (agents_in events) world
 
 -- the line of the choice that a question asks for, among these links
 abbrev pub choice_line : Question → List Link → List ℕ

@@ -14,16 +14,16 @@ use Rattle.kn_world.proofs.ChoiceLemmas.{goes_where_picked, refused_nowhere_else
 use Rattle.kn_refinement.specs.Requests.{given_for}
 
 -- ---- what stands in a short list
-in_none : (x : ServerOut) → IsIn x [] → ⊥
+pub in_none : (x : ServerOut) → IsIn x [] → ⊥
 in_none x ([], behind, e) = cc e
 in_none x (y ∷ before, behind, e) = cc e
 
-in_one : (x a : ServerOut) → IsIn x (a ∷ []) → x ≡ a
+pub in_one : (x a : ServerOut) → IsIn x (a ∷ []) → x ≡ a
 in_one x a ([], behind, e) = let same : a ≡ x = cc in sym same
 in_one x a (y ∷ [], behind, e) = absurd (cc e)
 in_one x a (y ∷ z ∷ before, behind, e) = absurd (cc e)
 
-in_two : (x a b : ServerOut) → IsIn x (a ∷ b ∷ []) → (x ≡ a) ⊎ (x ≡ b)
+pub in_two : (x a b : ServerOut) → IsIn x (a ∷ b ∷ []) → (x ≡ a) ⊎ (x ≡ b)
 in_two x a b ([], behind, e) = let same : a ≡ x = cc in inl (sym same)
 in_two x a b (y ∷ before, behind, e) = let rest : b ∷ [] ≡ before ++ x ∷ behind = cc in inr (in_one x b (before, behind, rest))
 

@@ -17,7 +17,7 @@ use Rattle.kn_world.specs.declared.state.State.{State}
 use Rattle.kn_world.specs.Apps as apps
 use Rattle.kn_world.specs.Doors as door
 use Rattle.kn_world.specs.Numbers.{change, nth}
-use Rattle.kn_world.specs.ServerSteps.{gives, gives_all, step, to_owner}
+use Rattle.kn_world.specs.ServerSteps.{gives, gives_all, step, stepped, to_owner}
 use Rattle.kn_world.specs.Sides as side
 use Rattle.kn_refinement.proofs.NumberLemmas.{nth_change}
 
@@ -49,7 +49,7 @@ module _ (P : App → Type 0) (hears : (p : Packet) (a : App) → P a → P (app
   all_given (o ∷ os) app k s h = all_given os app k (gives o app s) (given o app k s h)
 
   pub step_has : (app : ℕ) (event : ServerEvent) (k : ℕ) (s : State) → Has P k s.apps → Has P k (step app event s).apps
-  step_has app event k s h = all_given (core.step s.server event).outs app k (record s { server = (core.step s.server event).state }) h
+  step_has app event k s h = all_given (core.step s.server event).outs app k (stepped app event s) h
 
 -- ---- its home and the number of its front
 pub record Tied (n : ℕ) (a : App) : Type 0 where

@@ -3,12 +3,14 @@ use Rattle.std.proofs.Common.{◌≡◌, ◌&&◌, ℕ, ℤ, pos, Bool, true, fa
 use Rattle.std.specs.Prelude.{codes}
 use Rattle.kn_packet.specs.declared.packet.Packet.{Packet}
 use Rattle.kn_packet.specs.declared.packet.Packet.TheVariants.{DialRsp}
+use Rattle.kn_server_core.specs.Choices.{choice_at}
 use Rattle.kn_server_core.specs.Server as core
 use Rattle.kn_server_core.specs.Steps.{Step}
 use Rattle.kn_server_core.specs.FrontLists.{is_up}
 use Rattle.kn_server_core.specs.declared.event.ServerEvent.TheVariants.{FrontPacket}
 use Rattle.kn_server_core.specs.declared.state.State.{State as ServerState}
 use Rattle.kn_world.specs.declared.parts.App.{App}
+use Rattle.kn_world.specs.declared.parts.AppChoice.{AppChoice}
 use Rattle.kn_world.specs.declared.parts.Home.TheVariants as home
 use Rattle.kn_world.specs.declared.parts.Owner.TheVariants as owner
 use Rattle.kn_world.specs.declared.parts.Stage.TheVariants as stage
@@ -17,7 +19,7 @@ use Rattle.kn_world.specs.Apps as apps
 use Rattle.kn_world.specs.Doors as door
 use Rattle.kn_world.specs.Hearing.{request}
 use Rattle.kn_world.specs.Numbers.{change, changed, nth, put_nth}
-use Rattle.kn_world.specs.ServerSteps.{gives_all, step, to_owner}
+use Rattle.kn_world.specs.ServerSteps.{choices_with, gives_all, step, to_owner}
 use Rattle.kn_world.specs.Sides as side
 use Rattle.kn_refinement.specs.Shown.{connect_app, connect_stream, shown}
 use Rattle.kn_refinement.proofs.Changes.{change_twice, changed_own}
@@ -130,44 +132,48 @@ module _ (s : State) (k f : ℕ) (b : App) (early : List ℕ) (there : nth k s.a
   abbrev pub before : State
   before = record s { apps = change (door.kept_some early) k s.apps }
 
-  abbrev after_step : Step → State → State
-  after_step x t = gives_all x.outs k (record t { server = x.state })
-
   abbrev keeping : State → State
   keeping t = record t { apps = change (apps.early_kept early) k t.apps }
 
-  abbrev AsOne : Step → Type 0
-  AsOne x = shown (keeping (after_step x s)) ≡ shown (after_step x before)
+  module _ (choices : List AppChoice) where
+    abbrev after_step : Step → State → State
+    after_step x t = gives_all x.outs k (record t { server = x.state; choices = choices })
 
-  nothing_given : (t : ServerState) → AsOne (record { state = t; outs = [] })
-  nothing_given t = alike_shown (record s { server = t }) k s.apps b (apps.early_kept early) (door.kept_some early) there
-      (ap (λ (x : App). x.home) (dialling_kept early b dialling) ∙ kept_home early b ∙ at_door) (kept_home early b ∙ at_door)
-      (sym (ap (λ (x : App). x.door.number) (dialling_kept early b dialling))) (same_alike (apps.early_kept early b) (door.kept_some early b) (dialling_kept early b dialling))
+    abbrev AsOne : Step → Type 0
+    AsOne x = shown (keeping (after_step x s)) ≡ shown (after_step x before)
 
-  chosen : (protocol target : List ℕ) (c : Result ℕ (List ℕ)) → AsOne (core.dial_chosen s.server f protocol target (pos 0) c)
-  chosen protocol target (Ok link) =
-      let d : ℕ = s.server.next_dial in
-      let x : Step = core.dial_chosen s.server f protocol target (pos 0) (Ok link) in
-      let F : App → App = λ (y : App). apps.early_kept early (apps.with_dial d y) in
-      let G : App → App = λ (y : App). apps.with_dial d (door.kept_some early y) in
-      let e : apps.early_kept early (apps.with_dial d b) ≡ door.kept_some early (apps.with_dial d b) = dialling_kept early (apps.with_dial d b) dialling in
-      ap (λ xs. shown (record (after_step x s) { apps = xs })) (change_twice (apps.early_kept early) (apps.with_dial d) k s.apps)
-      ∙ alike_shown (after_step x s) k s.apps b F G there (ap (λ (y : App). y.home) e ∙ kept_home early (apps.with_dial d b) ∙ at_door) (kept_home early b ∙ at_door)
-      (kept_number early b ∙ sym (ap (λ (y : App). y.door.number) e ∙ kept_number early (apps.with_dial d b)))
-      (record { stream = λ j. ap (λ y. connect_stream j (Some y)) e ∙ (dialled_alike early d b).stream j; app = ap connect_app e ∙ (dialled_alike early d b).app })
-      ∙ ap (λ xs. shown (record (after_step x s) { apps = xs })) (sym (change_twice (apps.with_dial d) (door.kept_some early) k s.apps))
-  chosen protocol target (Err text) =
-      let p : Packet = DialRsp text (pos 0) (pos 0) in
-      let F : App → App = λ (y : App). apps.early_kept early (apps.heard p y) in
-      let G : App → App = λ (y : App). apps.heard p (door.kept_some early y) in
-      let e : apps.early_kept early (apps.heard p b) ≡ apps.heard p (door.kept_some early b) = request_heard early text (pos 0) (pos 0) b dialling open_yet in
-      ap (λ o. shown (keeping (to_owner o p s))) front
-      ∙ ap (λ xs. shown (record s { apps = xs })) (change_twice (apps.early_kept early) (apps.heard p) k s.apps ∙ change_own F G k s.apps b there e ∙ sym (change_twice (apps.heard p) (door.kept_some early) k s.apps))
-      ∙ ap (λ o. shown (to_owner o p before)) (sym front)
+    nothing_given : (t : ServerState) → AsOne (record { state = t; outs = [] })
+    nothing_given t = alike_shown (record s { server = t; choices = choices }) k s.apps b (apps.early_kept early) (door.kept_some early) there
+        (ap (λ (x : App). x.home) (dialling_kept early b dialling) ∙ kept_home early b ∙ at_door) (kept_home early b ∙ at_door)
+        (sym (ap (λ (x : App). x.door.number) (dialling_kept early b dialling))) (same_alike (apps.early_kept early b) (door.kept_some early b) (dialling_kept early b dialling))
+
+    chosen : (protocol target : List ℕ) (c : Result ℕ (List ℕ)) → AsOne (core.dial_chosen s.server f protocol target (pos 0) c)
+    chosen protocol target (Ok link) =
+        let d : ℕ = s.server.next_dial in
+        let x : Step = core.dial_chosen s.server f protocol target (pos 0) (Ok link) in
+        let F : App → App = λ (y : App). apps.early_kept early (apps.with_dial d y) in
+        let G : App → App = λ (y : App). apps.with_dial d (door.kept_some early y) in
+        let e : apps.early_kept early (apps.with_dial d b) ≡ door.kept_some early (apps.with_dial d b) = dialling_kept early (apps.with_dial d b) dialling in
+        ap (λ xs. shown (record (after_step x s) { apps = xs })) (change_twice (apps.early_kept early) (apps.with_dial d) k s.apps)
+        ∙ alike_shown (after_step x s) k s.apps b F G there (ap (λ (y : App). y.home) e ∙ kept_home early (apps.with_dial d b) ∙ at_door) (kept_home early b ∙ at_door)
+        (kept_number early b ∙ sym (ap (λ (y : App). y.door.number) e ∙ kept_number early (apps.with_dial d b)))
+        (record { stream = λ j. ap (λ y. connect_stream j (Some y)) e ∙ (dialled_alike early d b).stream j; app = ap connect_app e ∙ (dialled_alike early d b).app })
+        ∙ ap (λ xs. shown (record (after_step x s) { apps = xs })) (sym (change_twice (apps.with_dial d) (door.kept_some early) k s.apps))
+    chosen protocol target (Err text) =
+        let p : Packet = DialRsp text (pos 0) (pos 0) in
+        let F : App → App = λ (y : App). apps.early_kept early (apps.heard p y) in
+        let G : App → App = λ (y : App). apps.heard p (door.kept_some early y) in
+        let e : apps.early_kept early (apps.heard p b) ≡ apps.heard p (door.kept_some early b) = request_heard early text (pos 0) (pos 0) b dialling open_yet in
+        ap (λ o. shown (keeping (to_owner o p (record s { choices = choices })))) front
+        ∙ ap (λ xs. shown (record s { apps = xs; choices = choices })) (change_twice (apps.early_kept early) (apps.heard p) k s.apps ∙ change_own F G k s.apps b there e ∙ sym (change_twice (apps.heard p) (door.kept_some early) k s.apps))
+        ∙ ap (λ o. shown (to_owner o p (record before { choices = choices }))) (sym front)
 
   pub kept_as_one : (target : List ℕ) → shown (keeping (step k (FrontPacket f (request target)) s)) ≡ shown (step k (FrontPacket f (request target)) before)
   kept_as_one target = here (is_up f s.server.fronts)
     where
-      here : (up : Bool) → AsOne (cond up (core.dial_asked s.server f (codes "tcp") target (pos 0)) (core.ignored s.server))
-      here true = chosen (codes "tcp") target (core.dial_choice s.server f (codes "tcp") target (pos 0))
-      here false = nothing_given s.server
+      noted : List AppChoice
+      noted = choices_with (choice_at s.server (FrontPacket f (request target))) k s.choices
+
+      here : (up : Bool) → AsOne noted (cond up (core.dial_asked s.server f (codes "tcp") target (pos 0)) (core.ignored s.server))
+      here true = chosen noted (codes "tcp") target (core.dial_choice s.server f (codes "tcp") target (pos 0))
+      here false = nothing_given noted s.server

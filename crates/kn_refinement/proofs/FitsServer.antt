@@ -12,6 +12,7 @@ use Rattle.kn_server_core.specs.declared.event.ServerOut.TheVariants as out
 use Rattle.kn_server_core.specs.declared.state.State.{State as ServerState}
 use Rattle.kn_world.specs.declared.parts.Agent.{Agent}
 use Rattle.kn_world.specs.declared.parts.App.{App}
+use Rattle.kn_world.specs.declared.parts.AppChoice.{AppChoice}
 use Rattle.kn_world.specs.declared.parts.Client.{Client}
 use Rattle.kn_world.specs.declared.parts.Dial.{Dial}
 use Rattle.kn_world.specs.declared.parts.Owner.{Owner}
@@ -21,7 +22,7 @@ use Rattle.kn_world.specs.Agents as agents
 use Rattle.kn_world.specs.Apps as apps
 use Rattle.kn_world.specs.Clients as clients
 use Rattle.kn_world.specs.Numbers.{change, nth}
-use Rattle.kn_world.specs.ServerSteps.{gives, gives_all, made, step, to_owner}
+use Rattle.kn_world.specs.ServerSteps.{gives, gives_all, made, step, stepped, to_owner}
 use Rattle.kn_world.specs.States.{new_dial}
 use Rattle.kn_refinement.specs.Fits.{AskedFits, Fits}
 use Rattle.kn_refinement.proofs.Changes.{changed_other, changed_own}
@@ -94,8 +95,8 @@ all_fit [] app s h fits = fits
 all_fit (o ∷ os) app s h fits = all_fit os app (gives o app s) h.1 (one_fits o app s h.0 fits)
 
 -- ---- the server's own state
-server_fits : (s : State) (t : ServerState) → t.next_dial ≡ s.server.next_dial → ((f : ℕ) → is_up f t.fronts ≡ true → (o : Owner) × (nth f s.fronts ≡ Some o)) → Fits s → Fits (record s { server = t })
-server_fits s t same known fits = record {
+server_fits : (s : State) (t : ServerState) (choices : List AppChoice) → t.next_dial ≡ s.server.next_dial → ((f : ℕ) → is_up f t.fronts ≡ true → (o : Owner) × (nth f s.fronts ≡ Some o)) → Fits s → Fits (record s { server = t; choices = choices })
+server_fits s t choices same known fits = record {
   asked = fits.asked;
   agents = fits.agents;
   clients = fits.clients;
@@ -107,9 +108,9 @@ server_fits s t same known fits = record {
 pub plus_one : (n : ℕ) → n + 1 ≡ suc n
 plus_one n = omega arith
 
-made_fits : (s : State) (t : ServerState) (link app : ℕ) (a : App) → t.next_dial ≡ s.server.next_dial + 1 → ((f : ℕ) → is_up f t.fronts ≡ true → (o : Owner) × (nth f s.fronts ≡ Some o))
-    → HasAgent s.agents link → nth app s.apps ≡ Some a → MayHaveDial s.clients a → Fits s → Fits (made s.server.next_dial link app (record s { server = t }))
-made_fits s t link app a next known linked there may fits = record {
+made_fits : (s : State) (t : ServerState) (choices : List AppChoice) (link app : ℕ) (a : App) → t.next_dial ≡ s.server.next_dial + 1 → ((f : ℕ) → is_up f t.fronts ≡ true → (o : Owner) × (nth f s.fronts ≡ Some o))
+    → HasAgent s.agents link → nth app s.apps ≡ Some a → MayHaveDial s.clients a → Fits s → Fits (made s.server.next_dial link app (record s { server = t; choices = choices }))
+made_fits s t choices link app a next known linked there may fits = record {
   asked = record { asker = asker };
   agents = dial_more_fits s.agents s.dials link app linked.0 linked.1 fits.agents;
   clients = apps_of_clients_fit s.clients s.apps (change (apps.with_dial s.server.next_dial) app s.apps) pairs fits.clients;
@@ -159,10 +160,10 @@ step_fits s app event fits orderly linked may = by (ruled s.server event orderly
     drawn_fits : IsDrawn s.server event (core.step s.server event) → Fits (step app event s)
     drawn_fits drawn =
         let asking = may.asks drawn.front drawn.protocol drawn.address drawn.random drawn.event_is in
-        subst (λ os. Fits (gives_all os app (record s { server = (core.step s.server event).state }))) (sym drawn.outs)
-        (one_fits (out.ToLink drawn.link (DialReq drawn.protocol drawn.address (pos s.server.next_dial))) app (made s.server.next_dial drawn.link app (record s { server = (core.step s.server event).state })) tt
-        (made_fits s (core.step s.server event).state drawn.link app asking.0 drawn.next known (linked drawn.link drawn.link_up) asking.1 asking.2 fits))
+        subst (λ os. Fits (gives_all os app (stepped app event s))) (sym drawn.outs)
+        (one_fits (out.ToLink drawn.link (DialReq drawn.protocol drawn.address (pos s.server.next_dial))) app (made s.server.next_dial drawn.link app (stepped app event s)) tt
+        (made_fits s (core.step s.server event).state (stepped app event s).choices drawn.link app asking.0 drawn.next known (linked drawn.link drawn.link_up) asking.1 asking.2 fits))
 
     by : IsRuled s.server event (core.step s.server event) → Fits (step app event s)
-    by (inl calm) = all_fit (core.step s.server event).outs app (record s { server = (core.step s.server event).state }) calm.outs.undrawn (server_fits s (core.step s.server event).state calm.next known fits)
+    by (inl calm) = all_fit (core.step s.server event).outs app (stepped app event s) calm.outs.undrawn (server_fits s (core.step s.server event).state (stepped app event s).choices calm.next known fits)
     by (inr drawn) = drawn_fits drawn

@@ -21,6 +21,9 @@ pub mod AppTakes
 pub mod Beginnings
 pub mod Changes
 pub mod Choosing
+pub mod ChosenParts
+pub mod ChosenRuns
+pub mod ChosenServer
 pub mod ClientBecame
 pub mod ClientChanges
 pub mod ClientGiven
@@ -44,6 +47,7 @@ pub mod ConnectServed
 pub mod ConnectSettles
 pub mod ConnectTakes
 pub mod ConnectWorlds
+pub mod Decided
 pub mod DestMoves
 pub mod DestSettles
 pub mod DoorsHeard
@@ -60,6 +64,7 @@ pub mod LeadsFronts
 pub mod LeadsLinks
 pub mod LeadsUp
 pub mod NumberLemmas
+pub mod OwnDials
 pub mod Pairs
 pub mod Promises
 pub mod Rounds

@@ -44,7 +44,7 @@ use Rattle.kn_refinement.specs.Headline.{IsPaired, KeepsBytesApart, LeavesNothin
 use Rattle.kn_refinement.specs.Shown.{agent_of, front_if, app_at_home, app_of, cid_if, client_app, connect_app, dial_of, is_told, link_of, number_if, shown}
 
 -- ---- lists
-nth_map : {A B : Type 0} (f : A → B) (n : ℕ) (xs : List A) → nth n (map f xs) ≡ option_map f (nth n xs)
+pub nth_map : {A B : Type 0} (f : A → B) (n : ℕ) (xs : List A) → nth n (map f xs) ≡ option_map f (nth n xs)
 nth_map f zero xs = refl
 nth_map f (suc i) xs = slice_get-map f xs i
 
@@ -62,11 +62,11 @@ empty_of [] h = refl
 empty_of (x ∷ xs) h = absurd (cc (sym h ∙ eqb-suc-zero (length xs)))
 
 -- ---- bytes
-number_some : (n : ℕ) → n ≢ 0 → number_if n ≡ Some n
+pub number_some : (n : ℕ) → n ≢ 0 → number_if n ≡ Some n
 number_some zero h = absurd (h refl)
 number_some (suc n) h = refl
 
-dial_not_none : (d : ℕ) (ds : List Dial) (x : Dial) → nth d ds ≡ Some x → d ≢ 0
+pub dial_not_none : (d : ℕ) (ds : List Dial) (x : Dial) → nth d ds ≡ Some x → d ≢ 0
 dial_not_none zero ds x at e = absurd cc
 dial_not_none (suc d) ds x at e = absurd cc
 

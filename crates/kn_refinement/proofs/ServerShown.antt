@@ -13,6 +13,7 @@ use Rattle.kn_packets.specs.Moves.{no_app, no_stream, served}
 use Rattle.kn_packets.specs.Outputs.{all_answered, dial_made, for_front, queued}
 use Rattle.kn_packets.specs.World.{WorldApp, WorldStream}
 use Rattle.kn_world.specs.declared.parts.App.{App}
+use Rattle.kn_world.specs.declared.parts.AppChoice.{AppChoice}
 use Rattle.kn_world.specs.declared.parts.Client.{Client}
 use Rattle.kn_world.specs.declared.parts.Home.{Home}
 use Rattle.kn_world.specs.declared.parts.Home.TheVariants as home
@@ -226,11 +227,11 @@ module _ (s : State) (random : ℤ) (app : ℕ) (os : List ServerOut) (fits : Fi
             ∙ sym (ap (λ o. settled_at f (connect_stream k o)) y.1)
 
 -- ---- all of it
-pub gives_shown : (s : State) (random : ℤ) (app : ℕ) (step : Step) → Fits s → Told s random app step.outs
-    → shown (gives_all step.outs app (record s { server = step.state })) ≡ settled (served random step (shown s))
+pub gives_shown : (s : State) (random : ℤ) (app : ℕ) (step : Step) (choices : List AppChoice) → Fits s → Told s random app step.outs
+    → shown (gives_all step.outs app (record s { server = step.state; choices = choices })) ≡ settled (served random step (shown s))
 unfolding both stream_in settled_at phase_of_app
-gives_shown s random app step fits told =
-    let t : State = record s { server = step.state } in
+gives_shown s random app step choices fits told =
+    let t : State = record s { server = step.state; choices = choices } in
     let new : State = gives_all step.outs app t in
     let same : (c : ℕ) → nth c new.clients ≡ option_map (client_after s.fronts step.outs c) (nth c s.clients) = λ c. clients_after step.outs app t c in
     let sames : (k : ℕ) → nth k new.apps ≡ option_map (app_after s.fronts app step.outs k) (nth k s.apps) = λ k. apps_after step.outs app t k in

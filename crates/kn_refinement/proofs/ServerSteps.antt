@@ -10,7 +10,7 @@ use Rattle.kn_server_core.specs.declared.event.ServerOut.TheVariants.{CutLink, M
 use Rattle.kn_packets.specs.Moves.{asked_by, server_does}
 use Rattle.kn_world.specs.declared.state.State.{State}
 use Rattle.kn_world.specs.Numbers.{nth}
-use Rattle.kn_world.specs.ServerSteps.{step}
+use Rattle.kn_world.specs.ServerSteps.{step, stepped}
 pub use Rattle.kn_refinement.specs.Asking.{AsksFor, LinksKnown}
 use Rattle.kn_refinement.specs.Fits.{Fits}
 use Rattle.kn_refinement.specs.Settled.{settled}
@@ -68,4 +68,4 @@ step_told s app event t fits known asks (inr drawn) = drawn_told s app event t f
 pub server_shown : (s : State) (app : ℕ) (event : ServerEvent) → Fits s → IsOrderly s.server → LinksKnown s → AsksFor event app s
     → shown (step app event s) ≡ settled (server_does event (shown s))
 server_shown s app event fits orderly known asks =
-    gives_shown s (asked_by event) app (core.step s.server event) fits (step_told s app event (core.step s.server event) fits known asks (ruled s.server event orderly))
+    gives_shown s (asked_by event) app (core.step s.server event) (stepped app event s).choices fits (step_told s app event (core.step s.server event) fits known asks (ruled s.server event orderly))

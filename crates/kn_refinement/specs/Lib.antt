@@ -1,4 +1,5 @@
 pub mod Asking
+pub mod Chosen
 pub mod Fits
 pub mod Headline
 pub mod Homes

@@ -8,6 +8,7 @@ ghost use Rattle.kn_world.specs.declared.event.WorldEvent.{WorldEvent};
 ghost use Rattle.kn_world.specs.declared.state.State.{State};
 ghost use Rattle.kn_world.specs.Events.{Happens, Runs};
 ghost use Rattle.kn_world.specs.States as running;
+ghost use Rattle.kn_refinement.specs.Chosen.{agents_in};
 ghost use Rattle.kn_refinement.specs.Fits.{Fits};
 ghost use Rattle.kn_refinement.specs.Headline.{KeepsPromises};
 ghost use Rattle.kn_refinement.specs.Shown.{shown};
@@ -28,8 +29,9 @@ pub fn events_are_moves()
         → (moves : List Move) × Makes (shown s) moves (shown t) }
 {}
 
-/// After every list of events the promises hold that the report of a world makes: bytes stay apart, connections are accounted for, and once all
-/// is quiet and closed nothing is left.
+/// After every list of events the promises hold that the report of a world makes: bytes stay apart, no two dials are of one app, connections are
+/// accounted for, each tunnel is in its tables, each dial goes to the link that was picked for it, and once all is quiet and closed nothing is left.
 pub fn worlds_keep_their_promises()
-    ensures { (strategies : List Strategy) (events : List WorldEvent) (idle : ℕ) (s : State) → Runs events (running.start strategies) idle s → KeepsPromises s }
+    ensures { (strategies : List Strategy) (events : List WorldEvent) (idle : ℕ) (s : State) → Runs events (running.start strategies) idle s
+        → KeepsPromises strategies (agents_in events) s }
 {}

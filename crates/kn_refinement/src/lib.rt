@@ -11,7 +11,7 @@ mod server_event_laws;
 mod server_laws;
 
 pub use agent_laws::{agents_lead, destinations_lead};
-pub use choice_laws::requests_go_where_picked;
+pub use choice_laws::{choices_decide, requests_go_where_picked};
 pub use client_laws::{client_apps_lead, clients_lead};
 pub use connect_laws::connects_lead;
 pub use laws::{events_are_moves, worlds_begin_alike, worlds_keep_their_promises};

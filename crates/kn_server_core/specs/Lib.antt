@@ -1,3 +1,4 @@
+pub mod Choices
 pub mod FrontLists
 pub mod Isolation
 pub mod Packets

@@ -1,6 +1,7 @@
 // The server without its sockets: what it does with each event of a link or a front, and what it gives out.
 #![tactic(auto)]
 
+mod choice;
 mod choose;
 mod cut;
 mod dials;
@@ -16,6 +17,7 @@ mod state;
 #[cfg(test)]
 mod tests;
 
+pub use choice::Choice;
 pub use event::{ServerEvent, ServerOut};
 pub use fronts::Fronts;
 pub use isolation::{

@@ -1,9 +1,11 @@
-ghost use Rattle.std.specs.Prelude.{◌≡◌, ◌++◌, [], OnOk};
+ghost use Rattle.std.specs.Prelude.{◌≡◌, ◌++◌, [], OnOk, IfOk};
 ghost use Rattle.kn_route.specs.LinkLists.{no_links};
 ghost use Rattle.kn_server_core.specs.FrontLists.{no_fronts};
+ghost use Rattle.kn_server_core.specs.Choices.{choice_at as choice_of_event};
 ghost use Rattle.kn_server_core.specs.Server as spec;
 ghost use Rattle.kn_server_core.specs.Sound.{IsSound, IsNext};
 
+use crate::choice::{Choice, choice_at};
 use crate::event::{ServerEvent, ServerOut};
 use crate::front_packets::from_front;
 use crate::fronts::Fronts;
@@ -159,6 +161,14 @@ impl ServerCore {
         ensures outs { OnOk result (outs.new.items ≡ outs.old.items ++ (spec.step self.old event).outs) }
     {
         handle(alloc, &mut self.state, event, outs)
+    }
+
+    /// The choice of a link that an event comes to, if it comes to one: what `step` does with the same event then sends the dial to its answer,
+    /// or refuses it. It makes one choice for a request, and does nothing for another event.
+    pub fn choice(&self, alloc: Global, event: &ServerEvent) -> Result<Option<Choice>, NoMemory>
+        ensures { IfOk result (λ found. found ≡ choice_of_event self.now event.now) }
+    {
+        choice_at(alloc, &self.state, event)
     }
 
     /// The dials that no agent has answered yet.

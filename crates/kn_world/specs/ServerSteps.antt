@@ -1,10 +1,13 @@
 -- What the server does with an event, and where its outputs go.
 use Rattle.std.specs.Prelude.{ℕ, List, [], ◌∷◌, ◌++◌, Option, Some, None}
 use Rattle.kn_packet.specs.declared.packet.Packet.{Packet}
+use Rattle.kn_server_core.specs.Choices.{choice_at}
+use Rattle.kn_server_core.specs.declared.choice.Choice.{Choice}
 use Rattle.kn_server_core.specs.declared.event.ServerEvent.{ServerEvent}
 use Rattle.kn_server_core.specs.declared.event.ServerOut.{ServerOut}
 use Rattle.kn_server_core.specs.declared.event.ServerOut.TheVariants as out
 use Rattle.kn_server_core.specs.Server as core
+use Rattle.kn_world.specs.declared.parts.AppChoice.{AppChoice}
 use Rattle.kn_world.specs.declared.parts.Owner.{Owner}
 use Rattle.kn_world.specs.declared.parts.Owner.TheVariants as owner
 use Rattle.kn_world.specs.declared.state.State.{State}
@@ -37,6 +40,14 @@ abbrev pub gives_all : List ServerOut → ℕ → State → State
 gives_all [] app s = s
 gives_all (o ∷ os) app s = gives_all os app (gives o app s)
 
--- ---- the server takes an event; a dial that it makes is that of the app
+-- the choices, with one more where the server came to one
+abbrev pub choices_with : Option Choice → ℕ → List AppChoice → List AppChoice
+choices_with None app choices = choices
+choices_with (Some choice) app choices = choices ++ (record { app = app; choice = choice }) ∷ []
+
+-- ---- the server takes an event; a dial that it makes, and a choice that it comes to, is that of the app
+abbrev pub stepped : ℕ → ServerEvent → State → State
+stepped app event s = record s { server = (core.step s.server event).state; choices = choices_with (choice_at s.server event) app s.choices }
+
 abbrev pub step : ℕ → ServerEvent → State → State
-step app event s = gives_all (core.step s.server event).outs app (record s { server = (core.step s.server event).state })
+step app event s = gives_all (core.step s.server event).outs app (stepped app event s)

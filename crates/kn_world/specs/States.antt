@@ -34,4 +34,4 @@ abbrev pub new_dial : ℕ → ℕ → Dial
 new_dial link app = record { link = link; app = app; handled = false; ticket = 0; connect_id = pos 0; side = new_side }
 
 abbrev pub start : List Strategy → State
-start strategies = record { server = server.start strategies; agents = []; clients = []; apps = []; dials = []; fronts = [] }
+start strategies = record { server = server.start strategies; agents = []; clients = []; apps = []; dials = []; fronts = []; choices = [] }

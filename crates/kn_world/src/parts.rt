@@ -4,6 +4,7 @@ use crate::packets::Packets;
 use kn_connect::ConnectFront;
 use kn_edge_core::{AgentCore, ClientCore};
 use kn_io::Text;
+use kn_server_core::Choice;
 use std::alloc::Global;
 
 /// One side of a tunnel: an app, or the destination of a dial.
@@ -123,4 +124,11 @@ pub struct Dial {
 pub enum Owner {
     Client { client: u64 },
     App { app: u64 },
+}
+
+/// A choice of the server, and the app that asked for the dial.
+#[derive(Drop)]
+pub struct AppChoice {
+    pub app: u64,
+    pub choice: Choice,
 }

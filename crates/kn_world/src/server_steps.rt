@@ -4,12 +4,13 @@ ghost use Rattle.kn_server_core.specs.Server as core;
 ghost use Rattle.kn_server_core.specs.Sound.{IsNext};
 ghost use Rattle.kn_world.specs.ServerSteps as spec;
 
-use crate::parts::{Dial, Owner};
+use crate::numbered::Numbered;
+use crate::parts::{AppChoice, Dial, Owner};
 use crate::state::State;
 use crate::{agents, apps, clients};
 use kn_io::NoMemory;
 use kn_packet::Packet;
-use kn_server_core::{ServerCore, ServerEvent, ServerOut};
+use kn_server_core::{Choice, ServerCore, ServerEvent, ServerOut};
 use std::alloc::Global;
 
 // A packet goes to a front: that of a client, or of an app, which has it at once.
@@ -91,11 +92,27 @@ fn step_core(
     Ok(outs)
 }
 
-/// The server takes an event. A dial that it makes is that of this app.
+// A choice that the server came to is noted, with the app that asked for the dial.
+fn note_choice(
+    choices: &mut Numbered<AppChoice>,
+    choice: Option<Choice>,
+    app: u64,
+) -> Result<(), NoMemory>
+    ensures { OnOk result (choices.new ≡ spec.choices_with choice app choices.old) }
+{
+    match choice {
+        Some(choice) => choices.push(AppChoice { app, choice }),
+        None => Ok(()),
+    }
+}
+
+/// The server takes an event. A dial that it makes, and a choice that it comes to, is that of this app.
 pub fn step(alloc: Global, state: &mut State, app: u64, event: ServerEvent) -> Result<(), NoMemory>
     requires { IsNext state.old.server event }
     ensures { OnOk result (state.new ≡ spec.step app event state.old) }
 {
+    let choice = state.server.choice(alloc, &event)?;
     let outs = step_core(alloc, &mut state.server, event)?;
+    note_choice(&mut state.choices, choice, app)?;
     gives_all(alloc, state, app, outs)
 }

@@ -4,7 +4,7 @@ ghost use Rattle.kn_world.specs.States.{new_side, new_agent, new_client, new_doo
 use crate::flow::Flow;
 use crate::numbered::Numbered;
 use crate::packets::Packets;
-use crate::parts::{Agent, App, Client, Dial, Door, Home, Owner, Side, Stage};
+use crate::parts::{Agent, App, AppChoice, Client, Dial, Door, Home, Owner, Side, Stage};
 use kn_connect::ConnectFront;
 use kn_edge_core::{AgentCore, ClientCore};
 use kn_io::Text;
@@ -22,6 +22,8 @@ pub struct State {
     pub dials: Numbered<Dial>,
     /// To whom each front of the server belongs, by its number.
     pub fronts: Numbered<Owner>,
+    /// The choices that the server came to, in their order.
+    pub choices: Numbered<AppChoice>,
 }
 
 impl Side {
@@ -127,6 +129,7 @@ impl State {
             apps: Numbered::new(alloc),
             dials: Numbered::new(alloc),
             fronts: Numbered::new(alloc),
+            choices: Numbered::new(alloc),
         }
     }
 }
