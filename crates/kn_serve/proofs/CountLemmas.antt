@@ -18,7 +18,7 @@ pub last_counts : (t : Turn) (a b c : ℕ) → a ≤ b → TurnCounts t b c → 
 last_counts turn.More a b c before counts = le_later a b c before counts
 last_counts turn.Done a b c before counts = le_later a b c before counts
 last_counts turn.Bound a b c before counts = le_later a b c before counts
-last_counts turn.BindFault a b c before counts = cc
+last_counts turn.BindFault a b c before counts = absurd counts
 last_counts turn.WaitFault a b c before counts = failing_later a b c before counts
 last_counts turn.ServerLost a b c before counts = le_later a b c before counts
 last_counts turn.NoMemory a b c before counts = le_later a b c before counts
