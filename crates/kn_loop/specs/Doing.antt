@@ -22,18 +22,18 @@ is_due (Some l) a = a.shuts && not a.has_out
 abbrev pub is_active : Option Line → Answers → Bool
 is_active l a = is_busy l a || is_due l a
 
--- the end of its dial may be asked for, its bytes may be read, bytes may be written on it
+-- the end of its dial may be asked for; its bytes may be read, and bytes may be written on it, where no such call waits for the port to name it
 abbrev pub may_ask : Option Line → Bool
 may_ask None = false
 may_ask (Some l) = line_may_ask l
 
 abbrev pub may_read : Option Line → Bool
 may_read None = false
-may_read (Some l) = line_may_read l
+may_read (Some l) = line_may_read l && not l.read_waits
 
 abbrev pub may_write : Option Line → Bool
 may_write None = false
-may_write (Some l) = line_may_write l
+may_write (Some l) = line_may_write l && not l.write_waits
 
 -- bytes are to be read now: they are wanted, and no read waits for the port to name the connection
 abbrev pub reads_now : Option Line → Answers → Bool

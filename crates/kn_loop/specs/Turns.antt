@@ -144,12 +144,12 @@ IsTurn did outgoing said top to_dial takes ended cut_off told0 told1 w0 w1 node0
     (result ≡ turn.NoMemory) ⊎ ((waits : Waited) × Turned did outgoing said top to_dial takes told0 told1 (counted w0) w1 node0 node1 waits
     × (result ≡ waited_answer waits (answer_of (is_done w1.course (ended node1) w1.lines (said node1)) (cut_off node1) (is_bound w1.course))))
 
--- the count of faults never falls, and the turn says that the port could not wait only where it rose
+-- the count of faults never falls; the turn says that the port could not wait only where it rose, and never that it could not listen
 abbrev pub TurnCounts : Turn → ℕ → ℕ → Type 0
 TurnCounts turn.More before after = before ≤ after
 TurnCounts turn.Done before after = before ≤ after
 TurnCounts turn.Bound before after = before ≤ after
-TurnCounts turn.BindFault before after = before ≤ after
+TurnCounts turn.BindFault before after = ⊥
 TurnCounts turn.WaitFault before after = Failing before after
 TurnCounts turn.ServerLost before after = before ≤ after
 TurnCounts turn.NoMemory before after = before ≤ after

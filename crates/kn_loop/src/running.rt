@@ -1,5 +1,5 @@
 ghost use Rattle.std.specs.Prelude.{ℕ, Bool, true, false, ◌≡◌, ◌<◌, ◌≤◌, ◌==◌, not, List, [], length, OnOk, IfOk};
-ghost use Rattle.kn_loop.specs.Turns.{is_busy, is_due, is_active, is_done, is_bound, answer_of};
+ghost use Rattle.kn_loop.specs.Turns.{is_busy, is_due, is_active, is_done, is_bound, answer_of, TurnCounts};
 ghost use Rattle.kn_loop.specs.Calls.{unpaused};
 ghost use Rattle.kn_loop.specs.Kept.{is_in, line_of};
 
@@ -86,7 +86,8 @@ impl<N: Node + Drop> Running<N> {
 
     /// What the turn answers where no call of the port ended it.
     pub fn answer(&self) -> Turn
-        ensures { result ≡ answer_of (is_done self.now.watch.course (N.ended_count self.now.node) self.now.watch.lines (N.answers self.now.node)) (N.is_cut_off self.now.node) (is_bound self.now.watch.course) }
+        ensures counts { (before after : ℕ) → before ≤ after → TurnCounts result before after }
+        ensures value { result ≡ answer_of (is_done self.now.watch.course (N.ended_count self.now.node) self.now.watch.lines (N.answers self.now.node)) (N.is_cut_off self.now.node) (is_bound self.now.watch.course) }
     {
         if self.is_done() {
             return Turn::Done;

@@ -10,6 +10,7 @@ use Rattle.kn_options.specs.declared.options.AgentOptions.{AgentOptions}
 use Rattle.kn_options.specs.declared.options.ClientOptions.{ClientOptions}
 use Rattle.kn_options.specs.declared.options.Options.{Options}
 use Rattle.kn_options.specs.declared.options.Options.TheVariants as options
+use Rattle.kn_port.specs.Answers.{Failing}
 use Rattle.kn_port.specs.declared.entry.Entry.{Entry}
 use Rattle.kn_serve.specs.Programs.{ServerRuns, AgentRuns, ClientRuns}
 use Rattle.kn_serve.specs.declared.words.ServerWords.{ServerWords}
@@ -56,10 +57,20 @@ Finishes o told0 told1 end.WaitFault = ProgramRuns o told0 told1 turn.WaitFault
 Finishes o told0 told1 end.ServerLost = ProgramRuns o told0 told1 turn.ServerLost
 Finishes o told0 told1 end.TurnBound = ProgramRuns o told0 told1 turn.Bound
 
+-- the count of faults never falls; the program ends as it could not listen, or as the wait failed, only where it rose
+abbrev pub EndCounts : End → ℕ → ℕ → Type 0
+EndCounts end.Done before after = before ≤ after
+EndCounts end.Usage before after = before ≤ after
+EndCounts end.NoMemory before after = before ≤ after
+EndCounts end.CannotListen before after = Failing before after
+EndCounts end.WaitFault before after = Failing before after
+EndCounts end.ServerLost before after = before ≤ after
+EndCounts end.TurnBound before after = before ≤ after
+
 -- the program of these options made its turns up to a last one
 pub record Runs (o : Options) (old new : Network) (ended : End) : Type 0 where
   pub turns : Finishes o old.told new.told ended
-  pub faults : old.faults ≤ new.faults
+  pub faults : EndCounts ended old.faults new.faults
 
 -- The words ask for a program, which runs to this end; or they are those of none, and nothing is done; or memory ran out
 -- while they were read.

@@ -1,9 +1,9 @@
-ghost use Rattle.std.specs.Prelude.{◌≡◌, ◌≤◌, map};
+ghost use Rattle.std.specs.Prelude.{◌≡◌, map};
 ghost use Rattle.kn_net.specs.Ends.{number_of, TellsEnd};
 ghost use Rattle.kn_net.specs.Run as spec;
 ghost use Rattle.kn_net.specs.Told.{told};
 ghost use Rattle.kn_net.specs.declared.end.End.{End};
-ghost use Rattle.kn_serve.specs.Working.{IsLast};
+ghost use Rattle.kn_serve.specs.Working.{IsLast, RunCounts};
 
 use crate::End;
 use crate::end::tell;
@@ -59,7 +59,7 @@ fn run_turns<R: Wait, P: Port>(rt: &R, alloc: Global, options: Options, port: &m
     requires short { spec.HasShortAddress options }
     ensures runs { spec.ProgramRuns options (P.told port.old) (P.told port.new) result }
     ensures last { IsLast result }
-    ensures faults { P.faults port.old ≤ P.faults port.new }
+    ensures counts { RunCounts result (P.faults port.old) (P.faults port.new) }
 {
     match options {
         Options::Server(options) => run_as_server(rt, alloc, server_words(options), port),

@@ -3,3 +3,4 @@ mod FirstLemmas
 mod ListenLemmas
 mod ServeLemmas
 mod TopLemmas
+mod CountLemmas

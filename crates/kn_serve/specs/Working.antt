@@ -1,5 +1,6 @@
 -- A node at work, turn after turn.
-use Rattle.std.specs.Prelude.{◌≡◌, ℕ, zero, suc, List, Option}
+use Rattle.std.specs.Prelude.{◌≡◌, ◌≤◌, ℕ, zero, suc, List, Option}
+use Rattle.kn_port.specs.Answers.{Failing}
 use Rattle.kn_port.specs.declared.entry.Entry.{Entry}
 use Rattle.kn_loop.specs.declared.watch.Watch.{Watch}
 use Rattle.kn_loop.specs.declared.turn.Turn.{Turn}
@@ -14,6 +15,16 @@ IsLast turn.BindFault = Unit {0}
 IsLast turn.WaitFault = Unit {0}
 IsLast turn.ServerLost = Unit {0}
 IsLast turn.NoMemory = Unit {0}
+
+-- the count of faults never falls; a run ends as its port could not listen, or could not wait, only where it rose
+abbrev pub RunCounts : Turn → ℕ → ℕ → Type 0
+RunCounts turn.More before after = before ≤ after
+RunCounts turn.Done before after = before ≤ after
+RunCounts turn.Bound before after = before ≤ after
+RunCounts turn.BindFault before after = Failing before after
+RunCounts turn.WaitFault before after = Failing before after
+RunCounts turn.ServerLost before after = before ≤ after
+RunCounts turn.NoMemory before after = before ≤ after
 
 module _ {N : Type 0} (Turns : Option (List Entry) → Option (List Entry) → Watch → Watch → N → N → Turn → Type 0) where
   -- so many turns were made, and after each there might be another one

@@ -11,7 +11,7 @@ ghost use Rattle.kn_agent_node.specs.Answers.{shuts_of};
 ghost use Rattle.kn_serve.specs.First.{first_course};
 ghost use Rattle.kn_serve.specs.Sides as side;
 ghost use Rattle.kn_serve.specs.Programs.{AgentWorks, AgentRuns};
-ghost use Rattle.kn_serve.specs.Working.{IsLast};
+ghost use Rattle.kn_serve.specs.Working.{IsLast, RunCounts};
 
 use crate::AgentWords;
 use crate::agent_side::AgentSide;
@@ -86,7 +86,7 @@ fn work_agent<W: Wait, P: Port>(
     requires hand { IsAtHand (Some conn) (P.told port.old) }
     ensures works { AgentWorks words.now conn (P.told port.old) (P.told port.new) result }
     ensures last { IsLast result }
-    ensures faults { P.faults port.old ≤ P.faults port.new }
+    ensures counts { RunCounts result (P.faults port.old) (P.faults port.new) }
 {
     match run_agent(alloc, conn, words) {
         Ok(running) => work(rt, running, port),
@@ -96,7 +96,7 @@ fn work_agent<W: Wait, P: Port>(
 
 /// A whole run of an agent: it dials its server, and then its node works until a turn is its last. It waits as its
 /// port does.
-#[tactic(auto, using(crate::proofs::FirstLemmas::dialled_at_hand))]
+#[tactic(auto, using(crate::proofs::FirstLemmas::dialled_at_hand, crate::proofs::CountLemmas::later_counts))]
 pub fn run_as_agent<W: Wait, P: Port>(
     rt: &W,
     alloc: Global,
@@ -105,7 +105,7 @@ pub fn run_as_agent<W: Wait, P: Port>(
 ) -> Turn
     ensures runs { AgentRuns words (P.told port.old) (P.told port.new) result }
     ensures last { IsLast result }
-    ensures faults { P.faults port.old ≤ P.faults port.new }
+    ensures counts { RunCounts result (P.faults port.old) (P.faults port.new) }
 {
     match port.dial(words.server.as_str()) {
         Dialled::Conn(conn) => work_agent(rt, alloc, conn, &words, port),

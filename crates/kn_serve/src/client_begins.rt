@@ -11,7 +11,7 @@ ghost use Rattle.kn_client_node.specs.Calls as client;
 ghost use Rattle.kn_serve.specs.First.{first_course};
 ghost use Rattle.kn_serve.specs.Sides.{client_answers, top_of};
 ghost use Rattle.kn_serve.specs.Programs.{ClientWorks, ClientDials, ClientRuns};
-ghost use Rattle.kn_serve.specs.Working.{IsLast};
+ghost use Rattle.kn_serve.specs.Working.{IsLast, RunCounts};
 
 use crate::ClientWords;
 use crate::client_side::ClientSide;
@@ -90,7 +90,7 @@ fn work_client<W: Wait, P: Port>(
     requires hand { IsAtHand (Some conn) (P.told port.old) }
     ensures works { ClientWorks words gates conn (P.told port.old) (P.told port.new) result }
     ensures last { IsLast result }
-    ensures faults { P.faults port.old ≤ P.faults port.new }
+    ensures counts { RunCounts result (P.faults port.old) (P.faults port.new) }
 {
     match run_client(alloc, conn, words, gates) {
         Ok(running) => work(rt, running, port),
@@ -98,7 +98,7 @@ fn work_client<W: Wait, P: Port>(
     }
 }
 
-#[tactic(auto, using(crate::proofs::FirstLemmas::dialled_at_hand))]
+#[tactic(auto, using(crate::proofs::FirstLemmas::dialled_at_hand, crate::proofs::CountLemmas::later_counts))]
 fn dial_client<W: Wait, P: Port>(
     rt: &W,
     alloc: Global,
@@ -109,7 +109,7 @@ fn dial_client<W: Wait, P: Port>(
     requires { length words.address ≤ 1048576 }
     ensures dials { ClientDials words gates (P.told port.old) (P.told port.new) result }
     ensures last { IsLast result }
-    ensures faults { P.faults port.old ≤ P.faults port.new }
+    ensures counts { RunCounts result (P.faults port.old) (P.faults port.new) }
 {
     match port.dial(words.server.as_str()) {
         Dialled::Conn(conn) => work_client(rt, alloc, conn, words, gates, port),
@@ -120,6 +120,7 @@ fn dial_client<W: Wait, P: Port>(
 
 /// A whole run of a client: it listens, dials its server, and then its node works until a turn is its last. It waits
 /// as its port does.
+#[tactic(auto, using(crate::proofs::CountLemmas::later_counts))]
 pub fn run_as_client<W: Wait, P: Port>(
     rt: &W,
     alloc: Global,
@@ -129,7 +130,7 @@ pub fn run_as_client<W: Wait, P: Port>(
     requires { length words.address ≤ 1048576 }
     ensures runs { ClientRuns words (P.told port.old) (P.told port.new) result }
     ensures last { IsLast result }
-    ensures faults { P.faults port.old ≤ P.faults port.new }
+    ensures counts { RunCounts result (P.faults port.old) (P.faults port.new) }
 {
     let mut gates = Gates::none();
     match listen_at(port, &mut gates, Gate::Apps, words.listen.as_str()) {

@@ -12,7 +12,7 @@ ghost use Rattle.kn_server_node.specs.Calls as server;
 ghost use Rattle.kn_serve.specs.First.{first_course, ServerListens, entries_after, gates_after, after, entries_after_any, gates_after_any, after_any, FailsWith};
 ghost use Rattle.kn_serve.specs.Sides as side;
 ghost use Rattle.kn_serve.specs.Programs.{ServerWorks, ServerRuns};
-ghost use Rattle.kn_serve.specs.Working.{IsLast};
+ghost use Rattle.kn_serve.specs.Working.{IsLast, RunCounts};
 
 use crate::ServerWords;
 use crate::first::course;
@@ -103,7 +103,7 @@ fn work_server<W: Wait, P: Port>(
 ) -> Turn
     ensures works { ServerWorks words gates (P.told port.old) (P.told port.new) result }
     ensures last { IsLast result }
-    ensures faults { P.faults port.old ≤ P.faults port.new }
+    ensures counts { RunCounts result (P.faults port.old) (P.faults port.new) }
 {
     match run_server(alloc, words, gates) {
         Ok(running) => work(rt, running, port),
@@ -112,6 +112,7 @@ fn work_server<W: Wait, P: Port>(
 }
 
 /// A whole run of a server: it listens, and then its node works until a turn is its last. It waits as its port does.
+#[tactic(auto, using(crate::proofs::CountLemmas::later_counts))]
 pub fn run_as_server<W: Wait, P: Port>(
     rt: &W,
     alloc: Global,
@@ -120,7 +121,7 @@ pub fn run_as_server<W: Wait, P: Port>(
 ) -> Turn
     ensures runs { ServerRuns words (P.told port.old) (P.told port.new) result }
     ensures last { IsLast result }
-    ensures faults { P.faults port.old ≤ P.faults port.new }
+    ensures counts { RunCounts result (P.faults port.old) (P.faults port.new) }
 {
     let mut gates = Gates::none();
     match listen_server(port, &mut gates, &words) {
