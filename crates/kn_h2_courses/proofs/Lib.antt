@@ -4,3 +4,4 @@ pub mod WindowLaws
 pub mod StreamSteps
 pub mod QueueLaws
 pub mod TextLaws
+pub mod FailLaws

@@ -31,10 +31,10 @@ use Rattle.kn_h2_courses.proofs.ByteLemmas.{frames_fit, kept_fit}
 
 -- ---- a frame, and frames, where the connection goes on
 
-none_is_some : {A : Type 0} (code : ℕ) (o : Option ℕ) → o ≡ Some code → o ≡ None → A
+pub none_is_some : {A : Type 0} (code : ℕ) (o : Option ℕ) → o ≡ Some code → o ≡ None → A
 none_is_some code o e f = absurd (let both : Some code ≡ None = sym e ∙ f in cc)
 
-failed_fail : (code : ℕ) (s : State) → (fail code s).failed ≡ Some code
+pub failed_fail : (code : ℕ) (s : State) → (fail code s).failed ≡ Some code
 unfolding fail
 failed_fail code s = refl
 
@@ -171,7 +171,7 @@ called needs s m e = by_failed s.failed (on_open s.streams m needs) e
     by_failed (Some code) b h = absurd cc
     by_failed None b h = refl
 
-moved : (s : State) (move : Move) → may s move ≡ true → s.failed ≡ None
+pub moved : (s : State) (move : Move) → may s move ≡ true → s.failed ≡ None
 moved s move ok = by_failed s.failed (move_parts s move ok).sound
   where
     by_failed : (o : Option ℕ) → is_none o ≡ true → o ≡ None

@@ -2,3 +2,4 @@ pub mod Courses
 pub mod Windows
 pub mod Queues
 pub mod Texts
+pub mod Failing

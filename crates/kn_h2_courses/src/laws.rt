@@ -1,3 +1,4 @@
+ghost use Rattle.kn_h2_courses.specs.Failing.{FailsWhereFelled};
 ghost use Rattle.kn_h2_courses.specs.Texts.{TextIsHeard};
 ghost use Rattle.kn_h2_courses.specs.Queues.{QueuedIsSent};
 ghost use Rattle.kn_h2_courses.specs.Windows.{WindowsAreSums};
@@ -18,4 +19,10 @@ pub fn queued_is_sent()
 /// of what came for it while the peer's half of it was open, without padding; and all of that unless the peer reset it.
 pub fn text_is_heard()
     ensures { TextIsHeard }
+{}
+
+/// A connection has failed with a code exactly where one of the acts is the first to bring the end: a piece whose
+/// frames break a rule, or that is no frames, or the reply that is one too many.
+pub fn fails_where_felled()
+    ensures { FailsWhereFelled }
 {}

@@ -4,4 +4,4 @@
 
 mod laws;
 
-pub use laws::{connection_windows_are_sums, queued_is_sent, text_is_heard};
+pub use laws::{connection_windows_are_sums, fails_where_felled, queued_is_sent, text_is_heard};
