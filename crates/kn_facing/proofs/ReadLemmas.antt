@@ -43,14 +43,14 @@ shift_own old new st = by_open (is_open st)
     by_open true = refl
     by_open false = refl
 
-bears_older : (c : Bool) (s : State) (n : ℕ) → Bears c (IsOlder s n) n s.opened
+bears_older : (c : Bool) (s : State) (n : ℕ) → Bears c (Unit {0}) (IsOlder s n) n s.opened
 bears_older c s n = record {
   gone = λ st k q. tt;
   texts = λ k text st q. q;
   ends = λ st q. q;
   heads = λ e st q. q;
-  shuts = λ st q. still s n st (shut st) (λ e. absurd cc) q;
-  cuts = λ st q. still s n st (record (shut st) { text = [] }) (λ e. absurd cc) q;
+  shuts = λ _ st q. still s n st (shut st) (λ e. absurd cc) q;
+  cuts = λ _ st q. still s n st (record (shut st) { text = [] }) (λ e. absurd cc) q;
   grants = λ by st q. still s n st (with_grant by st) (λ e. sym (grant_own by st) ∙ e) q;
   shifts = λ old new st q. still s n st (shifted_one old new st) (λ e. sym (shift_own old new st) ∙ e) q;
   fresh = λ m u low e. inr (subst (λ (k : ℕ). s.opened < k) e low);

@@ -51,14 +51,14 @@ first_shift old new st h = by_open (is_open st)
     by_open true = h
     by_open false = h
 
-bears_first : (n low : ℕ) → Bears false FirstOf n low
+bears_first : (n low : ℕ) → Bears false (Unit {0}) FirstOf n low
 bears_first n low = record {
   gone = λ st k q. tt;
   texts = λ k text st q. q;
   ends = λ st q. q;
   heads = λ e st q. absurd cc;
-  shuts = λ st q e. (refl, refl);
-  cuts = λ st q e. (refl, refl);
+  shuts = λ _ st q e. (refl, refl);
+  cuts = λ _ st q e. (refl, refl);
   grants = λ by st q. first_grant by st q;
   shifts = λ old new st q. first_shift old new st q;
   fresh = λ m u above e first. (refl, refl);

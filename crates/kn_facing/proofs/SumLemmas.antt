@@ -169,14 +169,14 @@ grant_open by st = by_open (is_open st) refl
     by_open true e = refl
     by_open false e = refl
 
-bears_open : (c : Bool) (t : State) (n : ℕ) → Bears c (OpenBefore t n) n t.opened
+bears_open : (c : Bool) (t : State) (n : ℕ) → Bears c (Unit {0}) (OpenBefore t n) n t.opened
 bears_open c t n = record {
   gone = λ st k q. tt;
   texts = λ k text st q. q;
   ends = λ st q up. q (or_right st.peer_open st.own_open up);
   heads = λ e st q. q;
-  shuts = λ st q up. absurd cc;
-  cuts = λ st q up. absurd cc;
+  shuts = λ _ st q up. absurd cc;
+  cuts = λ _ st q up. absurd cc;
   grants = λ by st q up. q (sym (grant_open by st) ∙ up);
   shifts = λ old new st q up. q (sym (shifted_open old new st) ∙ up);
   fresh = λ m u low e up. inr (subst (λ (k : ℕ). t.opened < k) e low);

@@ -20,7 +20,8 @@ use Rattle.kn_h2_state.proofs.SeenLemmas.{at_changed, climbs, climbs_change, tex
 use Rattle.kn_h2.proofs.FoundLemmas.{found_open}
 use Rattle.kn_h2.specs.Sending.{sent, InOrder}
 use Rattle.kn_h2.specs.Written.{FillsAreWritten, FillsBring, moves_list}
-use Rattle.kn_pending.specs.Pending.{Admits, Between, ClosedStays, Delivers, DeliversHeard, Enters, Handles, IsWhole, KeepsBehind, LeavesFront, Queues, Reads, Way, Writes, WritesNothing, delivered, entered, unhandled, unwritten, wire, with_from}
+use Rattle.kn_facing.specs.Ways.{Way, wire, IsWhole, delivered, entered, with_from}
+use Rattle.kn_pending.specs.Pending.{Admits, Between, ClosedStays, Delivers, DeliversHeard, Enters, Handles, KeepsBehind, LeavesFront, Queues, Reads, Writes, WritesNothing, unhandled, unwritten}
 
 abbrev pub Split : Type 0
 Split = (n : ℕ) (r : Reading) (xs ys : List ℕ) → WireSplits n r xs ys

@@ -15,14 +15,14 @@ abbrev pub QueuedAs : List ℕ → Option Stream → Type 0
 QueuedAs q None = Unit {0}
 QueuedAs q (Some st) = st.own_open ≡ true → st.queue ≡ q
 
-bears_queue : (c : Bool) (n low : ℕ) (q : List ℕ) → (low < n → q ≡ []) → Bears c (QueuedAs q) n low
+bears_queue : (c : Bool) (n low : ℕ) (q : List ℕ) → (low < n → q ≡ []) → Bears c (Unit {0}) (QueuedAs q) n low
 bears_queue c n low q new = record {
   gone = λ st e h. tt;
   texts = λ k text st h. h;
   ends = λ st h. h;
   heads = λ e st h. h;
-  shuts = λ st h o. absurd cc;
-  cuts = λ st h o. absurd cc;
+  shuts = λ _ st h o. absurd cc;
+  cuts = λ _ st h o. absurd cc;
   grants = λ by st h. grant by (is_open st) st h;
   shifts = λ old next st h. shift old next (is_open st) st h;
   fresh = λ m t above same o. sym (new (subst (λ k. low < k) same above));

@@ -3,30 +3,21 @@
 use Rattle.std.specs.Prelude.{◌≡◌, ◌≤◌, ◌==◌, ℕ, true, false, List, [], ◌++◌, take, None, Some}
 use Rattle.std.specs.List.{AllByRecursion}
 use Rattle.kn_frames.specs.declared.frame.Frame.{Frame}
-use Rattle.kn_frames.specs.Readers.{after_bytes, frames_in}
+use Rattle.kn_frames.specs.Readers.{frames_in}
 use Rattle.kn_h2_state.specs.declared.state.State.{State}
 use Rattle.kn_h2_state.specs.Payloads.{number_at}
 use Rattle.kn_h2_state.specs.Rules.{is_client, verdict}
-use Rattle.kn_h2_state.specs.Feeding.{Connection, after_frame, after_frames, after_piece}
+use Rattle.kn_h2_state.specs.Feeding.{after_frame, after_frames, after_piece}
 use Rattle.kn_h2_state.specs.declared.stream.Stream.{Stream}
 use Rattle.kn_h2_state.specs.Streams.{stream_at}
 use Rattle.kn_h2_state.specs.Moves.{Reaches}
-use Rattle.kn_h2_state.specs.Calls.{text_of, queue_of, refusal, takes_more, after_take, after_queue, after_took}
+use Rattle.kn_h2_state.specs.Calls.{text_of, queue_of, refusal, takes_more, after_take, after_queue}
 use Rattle.kn_h2_state.specs.Hearing.{StaysOpen, is_peer_open, is_reset_of}
 use Rattle.kn_h2_state.specs.Holding.{Holds}
-use Rattle.kn_h2_state.specs.Wire.{Hears, wire_text, IsBetweenFrames, spellings}
+use Rattle.kn_h2_state.specs.Wire.{Hears, wire_text, spellings}
 use Rattle.kn_h2.specs.Written.{Brings}
+use Rattle.kn_facing.specs.Ways.{Way, wire, IsWhole, delivered, entered, with_from}
 use Rattle.kn_pending.specs.Packets.{IsFrontOf}
-
--- one way of a connection: the end that it comes to, the bytes on their way, and the end that they are from
-pub record Way : Type 0 where
-  pub to : Connection
-  pub pipe : List ℕ
-  pub from : Connection
-
--- what one end has still to read of the other: first what is on its way, then what waits at the other
-abbrev pub wire : Way → List ℕ
-wire w = w.pipe ++ w.from.state.out.bytes
 
 -- What came of a stream and was not handled: the bytes of the message under way, and text that nobody took.
 abbrev pub unhandled : ℕ → List ℕ → Way → List ℕ
@@ -39,26 +30,11 @@ unwritten n w behind = queue_of w.from.state n ++ behind
 abbrev pub pending : ℕ → List ℕ → Way → List ℕ → List ℕ
 pending n kept w behind = unhandled n kept w ++ (wire_text n w.to.cutter (wire w) ++ unwritten n w behind)
 
--- once all that is on the wire was read, a frame begins
-abbrev pub IsWhole : Way → Type 0
-IsWhole w = IsBetweenFrames (after_bytes w.to.cutter (wire w))
-
 -- ---- steps
 
--- the first bytes of what is on its way come to the end
-abbrev pub delivered : List ℕ → List ℕ → Way → Way
-delivered piece rest w = record w { to = after_piece w.to piece; pipe = rest }
-
--- what waits at the other end goes on its way
-abbrev pub entered : ℕ → Way → Way
-entered count w = record w { pipe = w.pipe ++ take count w.from.state.out.bytes; from = record w.from { state = after_took count w.from.state } }
-
--- each end's state changes
+-- the state of the end that reads changes
 abbrev pub with_to : (State → State) → Way → Way
 with_to f w = record w { to = record w.to { state = f w.to.state } }
-
-abbrev pub with_from : (State → State) → Way → Way
-with_from f w = record w { from = record w.from { state = f w.from.state } }
 
 -- ---- what they do to what is pending
 
