@@ -26,5 +26,5 @@ speed() {
 few=$(speed connection 1000000 "$count") || exit 1
 many=$(speed connection "${count}000000" 1) || exit 1
 copied=$(speed copy "${count}000000" 10) || exit 1
-echo "connection: $few MB a second at 1 MB, $many at $count MB, ratio $((few * 100 / many))/100"
-echo "copy: $copied MB a second, $((copied * 10 / many))/10 times the connection at $count MB"
+echo "connection: $few MB a second at 1 MB, $many at $count MB, ratio $((few * 100 / (many ? many : 1)))/100"
+echo "copy: $copied MB a second, $((copied * 10 / (many ? many : 1)))/10 times the connection at $count MB"

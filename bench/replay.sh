@@ -84,5 +84,5 @@ event_cost() {
 few=$(event_cost 100 0 $((runs * 10))) || exit 1
 many=$(event_cost 600 0 "$runs") || exit 1
 long=$(event_cost 600 10000 "$runs") || exit 1
-echo "an event: $few ns at 100 apps, $many ns at 600, ratio $((many * 100 / few))/100; $long ns in 10,000 lines"
+echo "an event: $few ns at 100 apps, $many ns at 600, ratio $((many * 100 / (few ? few : 1)))/100; $long ns in 10,000 lines"
 tail -n 2 "$tmp/report"

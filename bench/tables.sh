@@ -28,5 +28,5 @@ round_cost() {
 for table in awaited held; do
     few=$(round_cost "$table" 100) || exit 1
     many=$(round_cost "$table" 60000) || exit 1
-    echo "$table: $few ns a round at 100 entries, $many ns at 60000, ratio $((many * 100 / few))/100"
+    echo "$table: $few ns a round at 100 entries, $many ns at 60000, ratio $((many * 100 / (few ? few : 1)))/100"
 done
