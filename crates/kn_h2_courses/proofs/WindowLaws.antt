@@ -1,6 +1,7 @@
 -- The windows of a connection are sums over its life.
-use Rattle.std.proofs.Common.{◌≡◌, ℕ, pos, ◌+◌, ◌+ℤ◌, ◌-ℤ◌, Bool, true, false, cond, List, [], ◌∷◌, ◌++◌, None, refl, sym, ap, ◌∙◌, subst, append-nil, arith}
+use Rattle.std.proofs.Common.{◌≡◌, ℕ, zero, suc, pos, ◌≤◌, ◌+◌, ◌+ℤ◌, ◌-ℤ◌, Bool, true, false, cond, leb, List, [], ◌∷◌, ◌++◌, length, take, drop, Option, Some, None, refl, sym, ap, ◌∙◌, subst, append-nil, arith}
 use Rattle.std.proofs.lemmas.Int.{ints}
+use Rattle.std.proofs.lemmas.List.{length-take}
 use Rattle.kn_frames.specs.declared.frame.Frame.{Frame}
 use Rattle.kn_frames.specs.Readers.{Reading, after_bytes, frames_in}
 use Rattle.kn_h2_state.specs.declared.role.Role.{Role}
@@ -22,7 +23,17 @@ use Rattle.kn_h2.proofs.ConnectionWindows.{frames_shift_all}
 use Rattle.kn_h2.proofs.OrderLemmas.{spends}
 use Rattle.kn_h2.proofs.OwnWindows.{connection_rises}
 use Rattle.kn_h2_courses.specs.Courses.{Act, Feeds, Tells, Takes, Begins, Answers, Queues, Finishes, Resets, Makes, Writes, MayDo, after, fed_by, spends_of, grants, Course, begins, after_act, first_reading}
-use Rattle.kn_h2_courses.specs.Windows.{all_data_in, wire_all_data, HasWindows, WindowsAreSums}
+use Rattle.kn_h2_courses.specs.Windows.{all_data_in, wire_all_data, HasWindows, WindowsAreSums, DataIsSpent}
+use Rattle.kn_hpack.specs.Fields.{Field}
+use Rattle.kn_hpack.specs.Encoding.{block_of}
+use Rattle.kn_h2_state.specs.declared.moves.Move.TheVariants.{GrantAll, Grant, Send, End, Stop}
+use Rattle.kn_h2_state.specs.declared.stream.Stream.{Stream}
+use Rattle.kn_h2_state.specs.Streams.{stream_at}
+use Rattle.kn_h2_state.specs.Rules.{is_client}
+use Rattle.kn_h2_state.specs.Moves.{can_send}
+use Rattle.kn_h2_state.specs.Wire.{frame, more_list, head_list, end_list, made_frames, move_frames}
+use Rattle.kn_h2.proofs.FoundLemmas.{found_open}
+use Rattle.kn_h2.proofs.MoveLemmas.{move_parts, send_parts}
 use Rattle.kn_h2_courses.proofs.LifeLemmas.{goes_on, going_before, piece_goes_on, going_act, IsCut, every_life}
 
 -- ---- sums over frames
@@ -76,7 +87,7 @@ move_moves s move h ok =
 
 -- ---- an act
 
-joined : (n : ℕ) (role : Role) (c : Course) (a : Act) (granted taken : ℕ) → HasWindows role c → Moved c.connection.state (after c.connection a).state granted (spends_of a) (grants 0 c.connection.state a) taken
+joined : (n : ℕ) (role : Role) (c : Course) (a : Act) (granted taken : ℕ) → HasWindows role c → Moved c.connection.state (after c.connection a).state granted (spends_of a) (grants c.connection.state a) taken
     → wire_grants 0 (first_reading role) (c.fed ++ fed_by a) ≡ wire_grants 0 (first_reading role) c.fed + granted
     → wire_all_data (first_reading role) (c.fed ++ fed_by a) ≡ wire_all_data (first_reading role) c.fed + taken → HasWindows role (after_act n c a)
 joined n role c a granted taken w m g t =
@@ -125,3 +136,60 @@ windows_are_sums = every_life (λ n role c. c.connection.state.failed ≡ None �
   first = λ e. at_first role;
   step = λ c a ok h p e. act_moves n role c a ok h (p (going_act c.connection a ok e)) e;
 })
+
+-- ---- DATA in what moves write
+
+more_no_data : (fuel n : ℕ) (block : List ℕ) → all_data_in (more_list fuel n block) ≡ 0
+unfolding more_list all_data_in
+more_no_data zero n block = refl
+more_no_data (suc fuel) n block = by_long (leb (length block) 16384) (more_no_data fuel n (drop 16384 block))
+  where
+    by_long : (b : Bool) → all_data_in (more_list fuel n (drop 16384 block)) ≡ 0
+        → all_data_in (cond b (frame 9 4 n block ∷ []) (frame 9 0 n (take 16384 block) ∷ more_list fuel n (drop 16384 block))) ≡ 0
+    by_long true e = refl
+    by_long false e = omega (arith, e)
+
+head_no_data : (n flags : ℕ) (block : List ℕ) → all_data_in (head_list n flags block) ≡ 0
+unfolding head_list all_data_in
+head_no_data n flags block = by_long (leb (length block) 16384)
+  where
+    by_long : (b : Bool) → all_data_in (cond b (frame 1 (flags + 4) n block ∷ []) (frame 1 flags n (take 16384 block) ∷ more_list (length block) n (drop 16384 block))) ≡ 0
+    by_long true = refl
+    by_long false = let e = more_no_data (length block) n (drop 16384 block) in omega (arith, e)
+
+end_no_data : (s : State) (n : ℕ) (o : Option (List Field)) → all_data_in (end_list s n o) ≡ 0
+unfolding all_data_in
+end_no_data s n None = refl
+end_no_data s n (Some trailers) = by_role (is_client s.role)
+  where
+    by_role : (b : Bool) → all_data_in (cond b (frame 0 1 n [] ∷ []) (head_list n 1 (block_of s.encoder trailers))) ≡ 0
+    by_role true = refl
+    by_role false = head_no_data n 1 (block_of s.encoder trailers)
+
+sent_data : (s : State) (n count : ℕ) → may s (Send n count) ≡ true → all_data_in (made_frames s (Send n count) (stream_at s.streams n)) ≡ count
+unfolding all_data_in
+sent_data s n count ok =
+    let here = found_open s.streams n (can_send count s.send) (move_parts s (Send n count) ok).due in
+    let fits : count ≤ length here.0.queue = (send_parts count s.send here.0 here.1.passed).queued in
+    let long = length-take count here.0.queue in
+    ap (λ (o : Option Stream). all_data_in (made_frames s (Send n count) o)) here.1.found ∙ omega (arith, fits, long)
+
+pub data_is_spent : DataIsSpent
+unfolding move_frames all_data_in
+data_is_spent s GrantAll ok = refl
+data_is_spent s (Grant n) ok = by_stream (stream_at s.streams n)
+  where
+    by_stream : (o : Option Stream) → all_data_in (made_frames s (Grant n) o) ≡ 0
+    by_stream None = refl
+    by_stream (Some st) = refl
+data_is_spent s (Send n count) ok = sent_data s n count ok
+data_is_spent s (End n) ok = by_stream (stream_at s.streams n)
+  where
+    by_stream : (o : Option Stream) → all_data_in (made_frames s (End n) o) ≡ 0
+    by_stream None = refl
+    by_stream (Some st) = end_no_data s n st.finish
+data_is_spent s (Stop n) ok = by_stream (stream_at s.streams n)
+  where
+    by_stream : (o : Option Stream) → all_data_in (made_frames s (Stop n) o) ≡ 0
+    by_stream None = refl
+    by_stream (Some st) = refl

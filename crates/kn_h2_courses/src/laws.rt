@@ -1,12 +1,14 @@
 ghost use Rattle.kn_h2_courses.specs.Failing.{FailsWhereFelled};
 ghost use Rattle.kn_h2_courses.specs.Texts.{TextIsHeard};
 ghost use Rattle.kn_h2_courses.specs.Queues.{QueuedIsSent};
-ghost use Rattle.kn_h2_courses.specs.Windows.{WindowsAreSums};
+ghost use Rattle.kn_h2_courses.specs.Windows.{DataIsSpent, WindowsAreSums};
 
 /// While a connection has not failed, its sending window is 65,535, more by all increments that came, less by all
 /// DATA that was sent; and its receiving window is 6,553,500, more by all that was granted, less by all DATA that came.
+/// What a move takes of the sending window is the DATA, of all streams, in the frames that it writes.
 pub fn connection_windows_are_sums()
-    ensures { WindowsAreSums }
+    ensures sums { WindowsAreSums }
+    ensures written { DataIsSpent }
 {}
 
 /// What was sent on a stream, followed by what waits, is the front of what was queued on it, and all of that until
