@@ -4,6 +4,8 @@ pub mod Fits
 pub mod Headline
 pub mod Homes
 pub mod Leads
+pub mod Named
 pub mod Requests
 pub mod Settled
 pub mod Shown
+pub mod Undialled
