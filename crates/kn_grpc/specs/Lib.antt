@@ -7,3 +7,4 @@ pub mod CallHeads
 pub mod Packets
 pub mod Calls
 pub mod Paths
+pub mod Kept

@@ -4,4 +4,5 @@ pub mod CutLemmas
 pub mod HostLemmas
 pub mod LinkLemmas
 pub mod ListingLemmas
+pub mod PlaceLemmas
 pub mod RangeLemmas

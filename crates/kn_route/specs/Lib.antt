@@ -7,6 +7,7 @@ pub mod Kinds
 pub mod LinkLists
 pub mod Listing
 pub mod Meanings
+pub mod Places
 pub mod Ranges
 pub mod Steps
 pub mod Strategies

@@ -12,3 +12,4 @@ pub mod Least
 pub mod Tasks
 pub mod CoreEvents
 pub mod FrontRooms
+pub mod Missing

@@ -7,6 +7,7 @@ ghost use Rattle.kn_server_node.specs.Nodes.{on_end};
 ghost use Rattle.kn_server_node.specs.Stirs.{Stirs};
 ghost use Rattle.kn_server_node.specs.Calls as spec;
 ghost use Rattle.kn_server_node.specs.Calls.{Opened, Bytes, Took, Lost, Does, Handling};
+ghost use Rattle.kn_server_node.specs.Missing.{missing_of};
 
 use crate::callers::collect;
 use crate::connecting::head_bytes;
@@ -226,6 +227,19 @@ impl ServerNode {
         match self.node.ends.get(conn) {
             Some(end) => one::is_bare(end),
             None => true,
+        }
+    }
+
+    /// How many bytes are missing on the connection to the end of the preface, of the head of a frame, or of its
+    /// payload. Of one that speaks CONNECT, that has failed, or that is not kept, each byte stands by itself: it is 1.
+    /// Takes no memory.
+    pub fn missing(&self, conn: u64) -> usize
+        ensures value { result ≡ missing_of self.now conn }
+        ensures some { 1 ≤ result }
+    {
+        match self.node.ends.get(conn) {
+            Some(end) => one::missing(end),
+            None => 1,
         }
     }
 
