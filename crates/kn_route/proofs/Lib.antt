@@ -1,7 +1,9 @@
 pub mod AddressLemmas
 pub mod ChoiceLemmas
 pub mod CutLemmas
+pub mod FittingLemmas
 pub mod HostLemmas
+pub mod HostTextLemmas
 pub mod LinkLemmas
 pub mod ListingLemmas
 pub mod PlaceLemmas

@@ -1,6 +1,8 @@
 pub mod Addresses
 pub mod Choice
 pub mod Cuts
+pub mod Fitting
+pub mod HostTexts
 pub mod Hosts
 pub mod Identifiers
 pub mod Kinds
