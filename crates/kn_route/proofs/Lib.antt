@@ -5,6 +5,7 @@ pub mod FittingLemmas
 pub mod HostLemmas
 pub mod HostTextLemmas
 pub mod LinkLemmas
+pub mod ListLemmas
 pub mod ListingLemmas
 pub mod PlaceLemmas
 pub mod RangeLemmas

@@ -8,6 +8,7 @@ pub mod Identifiers
 pub mod Kinds
 pub mod LinkLists
 pub mod Listing
+pub mod Lists
 pub mod Meanings
 pub mod Places
 pub mod Ranges

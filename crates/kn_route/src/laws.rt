@@ -8,6 +8,9 @@ ghost use Rattle.kn_route.specs.Addresses.{IsAddress, address_in};
 ghost use Rattle.kn_route.specs.Ranges.{IsRange, range_in};
 ghost use Rattle.kn_route.specs.Hosts.{host_in};
 ghost use Rattle.kn_route.specs.HostTexts.{IsHost};
+ghost use Rattle.kn_route.specs.Identifiers.{identifiers_in};
+ghost use Rattle.kn_route.specs.Lists.{AreIdentifiers, IsStrategyList};
+ghost use Rattle.kn_route.specs.Strategies.{strategies_in};
 ghost use Rattle.kn_route.specs.Meanings.{fits};
 ghost use Rattle.kn_route.specs.Choice.{is_of};
 ghost use Rattle.kn_route.specs.Fitting.{Speaks, IsOf};
@@ -29,6 +32,20 @@ pub fn ranges_as_spelled()
 pub fn hosts_as_spelled()
     ensures host { (address host : List ℕ) → host_in address ≡ Ok host → IsHost address host }
     ensures only_host { (address host : List ℕ) → IsHost address host → host_in address ≡ Ok host }
+{}
+
+/// The identifiers that are read of a text are the pairs of its form, of at most 10,240 bytes, each with the
+/// kind of its name.
+pub fn identifiers_as_spelled()
+    ensures pairs { (text : List ℕ) (pairs : List (IdKind × List ℕ)) → identifiers_in text ≡ Ok pairs → AreIdentifiers text pairs }
+    ensures only_pairs { (text : List ℕ) (pairs : List (IdKind × List ℕ)) → AreIdentifiers text pairs → identifiers_in text ≡ Ok pairs }
+{}
+
+/// The strategies that are read of a text are those whose names it has, with commas between them: one at
+/// least, and none twice.
+pub fn strategies_as_spelled()
+    ensures strategies { (text : List ℕ) (strategies : List Strategy) → strategies_in text ≡ Ok strategies → IsStrategyList text strategies }
+    ensures only_strategies { (text : List ℕ) (strategies : List Strategy) → IsStrategyList text strategies → strategies_in text ≡ Ok strategies }
 {}
 
 /// A pair of identifiers fits a host exactly where the table says so, and a link is one of a strategy for a
