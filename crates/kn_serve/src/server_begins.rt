@@ -83,7 +83,7 @@ fn run_server(
     words: ServerWords,
     gates: Gates,
 ) -> Result<Running<ServerSide>, NoMemory>
-    ensures node { IfOk result (λ r. r.node.node ≡ server.start words.strategies words.id) }
+    ensures node { IfOk result (λ r. r.node.node ≡ server.start words.strategies words.id 1) }
     ensures watch { IfOk result (λ r. Starts None gates 0 (first_course words.tunnels words.turns) r.watch) }
     ensures ready { IfOk result (λ r. (drawn : ℕ) (told : Option (List Entry)) → Steady r.busy.items r.awake r.watch (side.server_answers r.node.node) r.node.node.top drawn told) }
 {
