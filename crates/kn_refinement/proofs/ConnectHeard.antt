@@ -257,7 +257,7 @@ module _ (go : KeysGoOn) (s : State) (k : ℕ) (a : App) (fits : Fits s) (keys :
     },
   )
 
-  kept_leads_on : Leads s kept
+  pub kept_leads_on : Leads s kept
   kept_leads_on = record {
     fits = kept_fits;
     moves = reaches_w.moves ++ reaches_kept.0;
