@@ -121,7 +121,7 @@ module _ (go : KeysGoOn) (serve : ServerLeads) where
       let left : State = record s { apps = change leaving k s.apps } in
       subst (λ t. Leads s t) (sym (end_is s k n a own))
       (leads_then go s left (step 0 (FrontLost (suc n)) (record left { apps = change lost k left.apps })) keys (leaving_leads s k n a fits own at_server)
-      (λ fit key. lost_leads serve left k n (leaving a) fit key (left_own s k n a fits own at_server) at_server (left_has a.stage) refl refl))
+      (λ fit key. lost_leads serve left k n (leaving a) fit key (left_own s k n a fits own at_server) at_server (inl (left_has a.stage)) refl refl))
 
   not_given : (a : App) → is_due a.side ≡ true → a.side.end_given ≡ false
   not_given a h = here a.side.end_given refl

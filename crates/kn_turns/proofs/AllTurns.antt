@@ -9,7 +9,7 @@ use Rattle.kn_refinement.proofs.DestSettles.{holding_leads}
 use Rattle.kn_refinement.proofs.LeadsFronts.{client_comes_leads, client_up_leads}
 use Rattle.kn_refinement.proofs.LeadsLinks.{agent_comes_leads}
 use Rattle.kn_turns.specs.Laws.{TurnsLead}
-use Rattle.kn_turns.specs.Turns.{AgentComes, AgentDrains, AgentLoses, AgentTakes, AppComes, AppEnds, AppHands, AppHolds, AppSends, AppStops, AppTakes, ClientComes, ClientLoses, ClientTakes, DestEnds, DestFails, DestHands, DestHolds, DestSends, DestStops, DestTakes, DialFailed, DialWon, AppRefused, DoorAsks, DoorComes, DoorFaulted, DoorHands, DoorHears, DoorHolds, DoorJoins, DoorLeaves, DoorReads, DoorSends, DoorStops, DoorTakes, LosesFront, LosesLink, TakesIn, TakesUp}
+use Rattle.kn_turns.specs.Turns.{AgentComes, AgentDrains, AgentLoses, AgentTakes, AppComes, AppEnds, AppHands, AppHolds, AppSends, AppStops, AppTakes, ClientComes, ClientLoses, ClientTakes, DestEnds, DestFails, DestHands, DestHolds, DestSends, DestStops, DestTakes, DialFailed, DialWon, AppRefused, DoorAsks, DoorComes, DoorFaulted, DoorHands, DoorHears, DoorHolds, DoorIsLost, DoorJoins, DoorLeaves, DoorReads, DoorSends, DoorStops, DoorTakes, LosesFront, LosesLink, TakesIn, TakesUp}
 use Rattle.kn_turns.proofs.AgentTurns.{down_turn, up_turn}
 use Rattle.kn_turns.proofs.AppTurns as app
 use Rattle.kn_turns.proofs.ClientTurns.{out_turn}
@@ -59,3 +59,4 @@ each_leads (DoorTakes k count) s may fits keys = door.takes_turn k count s may f
 each_leads (DoorHolds k held) s may fits keys = door.holds_turn k held s may fits
 each_leads (DoorStops k) s may fits keys = door.stops_turn k s may fits
 each_leads (DoorLeaves k) s may fits keys = door.leaves_turn k s may fits keys
+each_leads (DoorIsLost k) s may fits keys = door.lost_turn k s may fits keys

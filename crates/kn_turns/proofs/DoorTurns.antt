@@ -1,10 +1,12 @@
 -- What an app by CONNECT does, one step at a time.
-use Rattle.std.proofs.Common.{◌≡◌, ◌++◌, ℕ, zero, suc, Bool, cond, inl, List, [], ◌∷◌, map, length, Some, refl, sym, ap, ◌∙◌, subst}
+use Rattle.std.proofs.Common.{◌≡◌, ◌++◌, ◌&&◌, ℕ, zero, suc, Bool, true, false, not, cond, inl, inr, List, [], ◌∷◌, map, length, Some, refl, sym, ap, ◌∙◌, subst}
 use Rattle.kn_packet.specs.declared.packet.Packet.{Packet}
 use Rattle.kn_packet.specs.declared.packet.Packet.TheVariants.{CloseReq, CloseRsp, Data, DialCls, DialReq, DialRsp, Drain, Other}
 use Rattle.kn_server_core.specs.Isolation.{Each}
+use Rattle.kn_server_core.specs.declared.event.ServerEvent.TheVariants.{FrontLost}
+use Rattle.kn_tunnel.specs.Kinds.{is_gone}
 use Rattle.kn_packets.specs.Keys.{Keys}
-use Rattle.kn_packets.specs.Moves.{JoinsIn, after, all_joined, join_first}
+use Rattle.kn_packets.specs.Moves.{DropsIn, JoinsIn, May, after, all_joined, join_first}
 use Rattle.kn_packets.specs.World.{WorldStream}
 use Rattle.kn_packets.proofs.Runs.{keys_go_on}
 use Rattle.kn_world.specs.declared.parts.App.{App}
@@ -15,23 +17,29 @@ use Rattle.kn_world.specs.Arrivals.{with_connect}
 use Rattle.kn_world.specs.Doors.{data_of}
 use Rattle.kn_world.specs.Handing as handing
 use Rattle.kn_world.specs.Hearing.{with_front}
+use Rattle.kn_world.specs.Apps as apps
+use Rattle.kn_world.specs.Idle.{is_at_door}
 use Rattle.kn_world.specs.Numbers.{change, nth}
+use Rattle.kn_world.specs.ServerSteps.{step}
+use Rattle.kn_world.specs.Sides as side
 use Rattle.kn_refinement.specs.Fits.{Fits, IsDataOf}
 use Rattle.kn_refinement.specs.Homes.{OfConnect}
 use Rattle.kn_refinement.specs.Leads.{Leads}
-use Rattle.kn_refinement.specs.Shown.{connect_stream, shown, unnumbered}
+use Rattle.kn_refinement.specs.Shown.{connect_stream, front_if, shown, unnumbered}
+use Rattle.kn_refinement.proofs.Changes.{change_twice, changed_own}
 use Rattle.kn_refinement.proofs.ConnectArrives.{comer, comer_there, comes_leads}
 use Rattle.kn_refinement.proofs.ConnectFirst.{fault_leads}
 use Rattle.kn_refinement.proofs.ConnectHands.{piece_leads}
 use Rattle.kn_refinement.proofs.ConnectHeard.{kept_leads_on}
 use Rattle.kn_refinement.proofs.ConnectHears.{hears_leads}
+use Rattle.kn_refinement.proofs.ConnectLeaves.{lost, lost_leads}
 use Rattle.kn_refinement.proofs.ConnectParts.{Own, Same, apps_changed, fits_changed, stream_shown, streams_changed}
 use Rattle.kn_refinement.proofs.ConnectSends.{sends_leads}
 use Rattle.kn_refinement.proofs.ConnectServed.{plain_serves}
 use Rattle.kn_refinement.proofs.ConnectSettles.{heard_ends, unheard_ends, unheard_shown}
 use Rattle.kn_refinement.proofs.ConnectTakes.{ended_leads, holding_leads, kept_leads, takes_leads}
 use Rattle.kn_refinement.proofs.Worlds.{leads_none, leads_one, leads_then, worlds_same}
-use Rattle.kn_turns.specs.Doors.{HasNotLeft, IsAnswered, IsFresh, IsHeard, IsUnheard, MayHand, OfDoor, app_refused, asks, faulted, joined, joins, reads, turned_away}
+use Rattle.kn_turns.specs.Doors.{HasNotLeft, IsAnswered, IsFresh, IsHeard, IsOver, IsUnheard, MayHand, OfDoor, app_refused, asks, faulted, front_gone, joined, joins, loses_front, reads, turned_away}
 use Rattle.kn_turns.specs.Notes.{app_ended, app_holding, app_sent}
 use Rattle.kn_world.specs.AppSteps as steps
 
@@ -165,3 +173,63 @@ module _ (s : State) (k n : ℕ) (a : App) (fits : Fits s) (own : Own s k n a) w
 
 pub joins_turn : (k : ℕ) (s : State) → OfDoor IsHeard k s → Fits s → Leads s (joins k s)
 joins_turn k s (a, there, at_door, heard) fits = joins_leads s k heard.0 a fits (record { there = there; at_door = at_door; number = heard.1 })
+
+-- ---- the server loses the front of one whose tunnel it has ended: what it keeps of it is dropped, and then the front
+abbrev bare : App → App
+bare a = record a { side = side.end_told a.side; door = record a.door { early = [] } }
+
+module _ (s : State) (k n : ℕ) (a : App) (fits : Fits s) (own : Own s k n a) (ends : a.door.closing ≡ true) (at_server : a.door.at_server ≡ true) where
+  abbrev bare_state : State
+  bare_state = record s { apps = change bare k s.apps }
+
+  bare_same : Same a (bare a)
+  bare_same = record {
+    at_door = own.at_door;
+    number = refl;
+    dial = refl;
+    early = tt;
+    unheard = λ z. let none : suc n ≡ 0 = sym own.number ∙ z in absurd cc;
+    refused = fits.fronts.refused k a own.there own.at_door;
+    present = λ m e g. at_server;
+    gone = λ m e g. absurd (cc (at_server, g));
+  }
+
+  -- its end of the stream is gone, and the server's is not
+  may_drop : May (DropsIn (suc n)) (shown s)
+  may_drop =
+      ap (λ (x : WorldStream). not (is_gone x.front) && not x.client) (stream_shown s k n a fits own)
+      ∙ ap (λ b. not (is_gone (front_if b)) && not (is_at_door a.stage && not a.door.closing)) at_server
+      ∙ ap (λ c. not (is_at_door a.stage && not c)) ends
+      ∙ ended_here (is_at_door a.stage)
+    where
+      ended_here : (b : Bool) → not (b && false) ≡ true
+      ended_here true = refl
+      ended_here false = refl
+
+  pub bare_leads : Leads s bare_state
+  bare_leads = leads_one s bare_state (DropsIn (suc n)) (fits_changed s k a bare fits own.there own.at_door bare_same) may_drop
+      (worlds_same (after (DropsIn (suc n)) (shown s)) (shown bare_state) refl (λ l. refl) (λ c. refl) (λ l. refl)
+      (streams_changed s k n a bare (λ b x. record x { up = cond b [] x.up }) fits own (λ x. refl) refl) (λ d. refl)
+      (apps_changed s k n a bare (λ b x. x) own own.at_door own.number (λ x. refl) refl))
+
+  pub bare_own : Own bare_state k n (bare a)
+  bare_own = record { there = changed_own bare k s.apps a own.there; at_door = own.at_door; number = own.number }
+
+pub lost_turn : (k : ℕ) (s : State) → OfDoor IsOver k s → Fits s → Keys (shown s) → Leads s (loses_front k s)
+lost_turn k s (a, there, at_door, may) fits keys = subst (λ t. Leads s t) (sym is)
+    (leads_then keys_go_on s (record s { apps = change bare k s.apps }) (step 0 (FrontLost (suc may.0.0)) (record s { apps = change lost k (change bare k s.apps) })) keys (bare_leads s k may.0.0 a fits own ends at_server)
+    (λ fit key. lost_leads plain_serves (record s { apps = change bare k s.apps }) k may.0.0 (bare a) fit key (bare_own s k may.0.0 a fits own ends at_server) at_server (inr ends) refl refl))
+  where
+    own : Own s k may.0.0 a
+    own = record { there = there; at_door = at_door; number = may.0.1 }
+
+    ends : a.door.closing ≡ true
+    ends = may.1
+
+    at_server : a.door.at_server ≡ true
+    at_server = may.2
+
+    is : loses_front k s ≡ step 0 (FrontLost (suc may.0.0)) (record s { apps = change lost k (change bare k s.apps) })
+    is = ap (λ o. step 0 (FrontLost (apps.front_of o)) (record s { apps = change front_gone k s.apps })) there
+        ∙ ap (λ m. step 0 (FrontLost m) (record s { apps = change front_gone k s.apps })) may.0.1
+        ∙ ap (λ xs. step 0 (FrontLost (suc may.0.0)) (record s { apps = xs })) (sym (change_twice lost bare k s.apps))

@@ -1,6 +1,7 @@
 -- What an app by CONNECT does, one step at a time: nothing settles behind a step.
-use Rattle.std.specs.Prelude.{◌≡◌, ◌⊎◌, ℕ, suc, false, true, List, length, Some}
+use Rattle.std.specs.Prelude.{◌≡◌, ◌⊎◌, ℕ, suc, false, [], true, List, length, Some}
 use Rattle.kn_packets.specs.Moves.{all_joined}
+use Rattle.kn_server_core.specs.declared.event.ServerEvent.TheVariants.{FrontLost}
 use Rattle.kn_world.specs.declared.parts.App.{App}
 use Rattle.kn_world.specs.declared.parts.Home.TheVariants as home
 use Rattle.kn_world.specs.declared.parts.Stage.TheVariants.{Dialling, Open, Refused}
@@ -10,6 +11,8 @@ use Rattle.kn_world.specs.Arrivals.{with_connect}
 use Rattle.kn_world.specs.Hearing.{front_up, with_front, with_head, with_owner}
 use Rattle.kn_world.specs.Hearing as hearing
 use Rattle.kn_world.specs.Numbers.{nth, change}
+use Rattle.kn_world.specs.ServerSteps as server
+use Rattle.kn_world.specs.Sides as side
 
 -- ---- an app that is refused at once, since its client has lost its server, is of no client: no client was told of it
 abbrev pub turned_away : List ℕ → App → App
@@ -35,6 +38,13 @@ joined a = record a { door = record a.door { early = all_joined a.door.early } }
 abbrev pub joins : ℕ → State → State
 joins k s = record s { apps = change joined k s.apps }
 
+-- ---- the server loses the front right behind the end of the tunnel: nothing of the app is kept, and it has no end to tell, but what came for it may be taken
+abbrev pub front_gone : App → App
+front_gone a = record a { side = side.end_told a.side; door = record a.door { at_server = false; early = [] } }
+
+abbrev pub loses_front : ℕ → State → State
+loses_front k s = server.step 0 (FrontLost (apps.front_of (nth k s.apps))) (record s { apps = change front_gone k s.apps })
+
 -- ---- the app of a number came by CONNECT, and is so
 abbrev pub OfDoor : (App → Type 0) → ℕ → State → Type 0
 OfDoor P k s = (a : App) × (nth k s.apps ≡ Some a) × (a.home ≡ home.Connect) × P a
@@ -55,6 +65,10 @@ MayHand a = IsHeard a × (a.door.closing ≡ false) × ((a.stage ≡ Dialling) �
 
 abbrev pub IsAnswered : App → Type 0
 IsAnswered a = IsHeard a × ((a.stage ≡ Open) ⊎ (a.door.closing ≡ true))
+
+-- the server has ended its tunnel, and still has its front
+abbrev pub IsOver : App → Type 0
+IsOver a = IsHeard a × (a.door.closing ≡ true) × (a.door.at_server ≡ true)
 
 abbrev pub HasNotLeft : App → Type 0
 HasNotLeft a = a.side.end_given ≡ false

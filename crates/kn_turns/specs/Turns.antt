@@ -13,7 +13,7 @@ use Rattle.kn_world.specs.Idle as idle
 use Rattle.kn_world.specs.Numbers.{nth}
 use Rattle.kn_world.specs.Pipes.{client_up}
 use Rattle.kn_refinement.specs.Homes.{OfClient, OfConnect}
-use Rattle.kn_turns.specs.Doors.{HasNotLeft, IsAnswered, IsFresh, IsHeard, IsUnheard, MayHand, OfDoor}
+use Rattle.kn_turns.specs.Doors.{HasNotLeft, IsAnswered, IsFresh, IsHeard, IsOver, IsUnheard, MayHand, OfDoor}
 use Rattle.kn_turns.specs.Doors as doors
 use Rattle.kn_turns.specs.Losses as losses
 use Rattle.kn_turns.specs.Notes as notes
@@ -68,6 +68,8 @@ pub data Turn : Type 0 where
   DoorHolds : (app : ℕ) (held : Bool) → Turn
   DoorStops : (app : ℕ) → Turn
   DoorLeaves : (app : ℕ) → Turn
+  -- the server has ended its tunnel, and loses its front while there may be bytes for it to take
+  DoorIsLost : (app : ℕ) → Turn
 
 abbrev pub turned : Turn → State → State
 turned (AgentComes identifiers) s = agent_comes identifiers s
@@ -110,6 +112,7 @@ turned (DoorTakes k count) s = app.takes k count s
 turned (DoorHolds k held) s = notes.app_holding held k s
 turned (DoorStops k) s = notes.app_ended k s
 turned (DoorLeaves k) s = handing.gives_end k s
+turned (DoorIsLost k) s = doors.loses_front k s
 
 abbrev pub MayTurn : Turn → State → Type 0
 MayTurn (AgentComes identifiers) s = Unit {0}
@@ -152,6 +155,7 @@ MayTurn (DoorTakes k count) s = OfConnect k s
 MayTurn (DoorHolds k held) s = OfConnect k s
 MayTurn (DoorStops k) s = OfConnect k s
 MayTurn (DoorLeaves k) s = OfDoor HasNotLeft k s
+MayTurn (DoorIsLost k) s = OfDoor IsOver k s
 
 -- turns, one after another
 abbrev pub Turns : List Turn → State → State → Type 0
