@@ -91,7 +91,7 @@ module _ (s : State) (k : ℕ) (a : App) (fits : Fits s) (there : nth k s.apps �
   is_faulted : (status : ℕ) → IsFaulted a (apps.refused status a)
   is_faulted status = subst (λ b. IsFaulted a b) (sym (taken_plainly a.side.held (faulted status a) old.closing)) (plainly_faulted a.side.held status)
 
-  fault_leads : (status : ℕ) → Leads s (record s { apps = change (apps.refused status) k s.apps })
+  pub fault_leads : (status : ℕ) → Leads s (record s { apps = change (apps.refused status) k s.apps })
   fault_leads status =
       let at : IsFaulted a (apps.refused status a) = is_faulted status in
       leads_none s (record s { apps = change (apps.refused status) k s.apps }) (fits_changed s k a (apps.refused status) fits there at_door at.same)

@@ -1,8 +1,11 @@
 pub mod AddressLemmas
 pub mod ChoiceLemmas
 pub mod CutLemmas
+pub mod FittingLemmas
 pub mod HostLemmas
+pub mod HostTextLemmas
 pub mod LinkLemmas
+pub mod ListLemmas
 pub mod ListingLemmas
 pub mod PlaceLemmas
 pub mod RangeLemmas

@@ -1,11 +1,14 @@
 pub mod Addresses
 pub mod Choice
 pub mod Cuts
+pub mod Fitting
+pub mod HostTexts
 pub mod Hosts
 pub mod Identifiers
 pub mod Kinds
 pub mod LinkLists
 pub mod Listing
+pub mod Lists
 pub mod Meanings
 pub mod Places
 pub mod Ranges

@@ -68,7 +68,7 @@ CannotBegin told0 told1 result = (result ≡ turn.NoMemory) × (told1 ≡ told0)
 
 abbrev pub ServerWorks : ServerOptions → Gates → Option (List Entry) → Option (List Entry) → Turn → Type 0
 ServerWorks options gates told0 told1 result = CannotBegin told0 told1 result ⊎ ((w : Watch) × (s : ServerSide)
-    × (s.node ≡ server.start options.strategies options.id) × Starts None gates 0 (first_course options.tunnels options.turns) w
+    × (s.node ≡ server.start options.strategies options.id 1) × Starts None gates 0 (first_course options.tunnels options.turns) w
     × Works ServerTurns (server_answer w s) told0 w s told1 result)
 
 abbrev pub AgentWorks : AgentOptions → ℕ → Option (List Entry) → Option (List Entry) → Turn → Type 0

@@ -83,7 +83,7 @@ fn run_server(
     options: ServerOptions,
     gates: Gates,
 ) -> Result<Running<ServerSide>, NoMemory>
-    ensures node { IfOk result (λ r. r.node.node ≡ server.start options.strategies options.id) }
+    ensures node { IfOk result (λ r. r.node.node ≡ server.start options.strategies options.id 1) }
     ensures watch { IfOk result (λ r. Starts None gates 0 (first_course options.tunnels options.turns) r.watch) }
     ensures ready { IfOk result (λ r. (drawn : ℕ) (told : Option (List Entry)) → Steady r.busy.items r.awake r.watch (side.server_answers r.node.node) r.node.node.top drawn told) }
 {

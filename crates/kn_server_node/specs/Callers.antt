@@ -55,7 +55,7 @@ has_no_front node = is_full node.ends node.fronts.items node.past_fronts node.co
 -- ---- a call on a stream
 
 abbrev pub answer_fields : Node → Service → List Field
-answer_fields node service = (status_field 200 ∷ content_type ∷ []) ++ server_fields service node.id 1
+answer_fields node service = (status_field 200 ∷ content_type ∷ []) ++ server_fields service node.id node.count
 
 abbrev pub place_of : ℕ → ℕ → Place
 place_of conn s = record { conn = conn; stream = s }

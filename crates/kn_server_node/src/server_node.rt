@@ -10,6 +10,8 @@ ghost use Rattle.kn_server_node.specs.Calls.{Opened, Bytes, Took, Lost, Does, Ha
 ghost use Rattle.kn_server_node.specs.Missing.{missing_of};
 
 use crate::callers::collect;
+use crate::choices::Choices;
+use crate::chosen::Chosen;
 use crate::connecting::head_bytes;
 use crate::connections::Connections;
 use crate::end::End;
@@ -108,9 +110,18 @@ fn wants_on(node: &Node, end: &End) -> bool
 }
 
 impl ServerNode {
-    /// A server without connections. Takes no memory.
+    /// A server without connections, alone behind its address. Takes no memory.
     pub fn new(alloc: Global, strategies: Strategies, server_id: Text) -> ServerNode
-        ensures start { result ≡ spec.start strategies server_id }
+        ensures start { result ≡ spec.start strategies server_id 1 }
+        ensures top { result.top ≡ 0 }
+    {
+        ServerNode::counted(alloc, strategies, server_id, 1)
+    }
+
+    /// A server without connections, one of `count` behind its address: its answers to agents say so. Takes no memory.
+    pub fn counted(alloc: Global, strategies: Strategies, server_id: Text, count: u32) -> ServerNode
+        requires { (1 ≤ count) × (count ≤ 100) }
+        ensures start { result ≡ spec.start strategies server_id count }
         ensures top { result.top ≡ 0 }
     {
         ServerNode {
@@ -127,7 +138,9 @@ impl ServerNode {
                 stirred: Stirred::new(alloc),
                 handled: 0,
                 gone: 0,
+                choices: Choices::new(alloc),
                 id: server_id,
+                count,
             },
         }
     }
@@ -188,6 +201,21 @@ impl ServerNode {
         ensures { MatchOption result ((self.old.stirred ≡ []) × (self.new ≡ self.old)) (λ c. self.old ≡ record self.new { stirred = self.new.stirred ++ c ∷ [] }) }
     {
         self.node.stirred.pop()
+    }
+
+    /// Hands out the first of the choices of links that the core made and that were not handed out or dropped. Takes no
+    /// memory.
+    pub fn next_choice(&mut self) -> Option<Chosen>
+        ensures { MatchOption result ((self.old.choices ≡ []) × (self.new ≡ self.old)) (λ chosen. self.old ≡ record self.new { choices = chosen ∷ self.new.choices }) }
+    {
+        self.node.choices.pop()
+    }
+
+    /// Drops what `next_choice` would hand out. Takes no memory.
+    pub fn drop_choices(&mut self, alloc: Global)
+        ensures { self.new ≡ record self.old { choices = [] } }
+    {
+        self.node.choices = Choices::new(alloc);
     }
 
     /// Bytes of the connection are wanted.

@@ -1,0 +1,5 @@
+pub mod Doors
+pub mod Losses
+pub mod Notes
+pub mod Laws
+pub mod Turns
