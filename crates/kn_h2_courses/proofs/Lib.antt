@@ -10,3 +10,4 @@ pub mod FreshWindows
 pub mod StreamWindowLaws
 pub mod TableSteps
 pub mod TableLaws
+pub mod FillingLaws

@@ -6,3 +6,4 @@ pub mod Failing
 pub mod OwnCalls
 pub mod StreamWindows
 pub mod Tables
+pub mod Filling

@@ -1,4 +1,5 @@
 ghost use Rattle.kn_h2_courses.specs.Failing.{FailsWhereFelled};
+ghost use Rattle.kn_h2_courses.specs.Filling.{MovesFillLittle};
 ghost use Rattle.kn_h2_courses.specs.Texts.{TextIsHeard};
 ghost use Rattle.kn_h2_courses.specs.Queues.{QueuedIsSent};
 ghost use Rattle.kn_h2_courses.specs.Windows.{DataIsSpent, WindowsAreSums};
@@ -41,4 +42,9 @@ pub fn fails_where_felled()
 /// What a connection keeps of the header fields of its peer counts at most 4,096 bytes, whatever is done with it.
 pub fn tables_are_small()
     ensures { TablesAreSmall }
+{}
+
+/// After a move at most 32,776 bytes wait for the socket, unless it ends a stream with trailers.
+pub fn moves_fill_little()
+    ensures { MovesFillLittle }
 {}
