@@ -15,9 +15,9 @@ pub fn runs_lead()
     ensures starts { StartsLead }
 {}
 
-/// After every list of turns from the start, the promises of many tunnels hold in the words of a report: bytes stay apart, no two dials are of one app,
-/// an app that is that of no dial got nothing, connections are accounted for, each tunnel is in its tables, and once all is quiet and closed nothing is
-/// left.
+/// After every list of turns from the start, the promises of many tunnels hold in the words of a report. Bytes stay apart, no two dials are of one app,
+/// and an app that is that of no dial got nothing. Connections are accounted for, and each tunnel is in its tables. Once all is quiet and closed nothing
+/// is left.
 pub fn turns_keep_promises()
     ensures { TurnsKeepPromises }
 {}
