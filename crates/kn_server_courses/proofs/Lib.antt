@@ -7,3 +7,4 @@ pub mod PlacedLemmas
 pub mod SoundLemmas
 pub mod StepLemmas
 pub mod CallLemmas
+pub mod HoldLemmas
