@@ -23,8 +23,9 @@ least() {
 }
 
 begin=$(least 1 '!') || exit 1
-few=$(($(least 16384 '!') - begin)) || exit 1
-many=$(($(least 65536 '!') - begin)) || exit 1
-plain=$(($(least 65536 '') - begin)) || exit 1
-[ "$few" -gt 0 ] || few=1
-echo "draining links: $((few / 1000)) microseconds for 16,384, $((many / 1000)) for 65,536, ratio $((many * 100 / few))/100; $((plain / 1000)) for 65,536 that do not drain"
+few=$(least 16384 '!') || exit 1
+many=$(least 65536 '!') || exit 1
+plain=$(least 65536 '') || exit 1
+few=$((few > begin ? few - begin : 1))
+many=$((many - begin))
+echo "draining links: $((few / 1000)) microseconds for 16,384, $((many / 1000)) for 65,536, ratio $((many * 100 / few))/100; $(((plain - begin) / 1000)) for 65,536 that do not drain"

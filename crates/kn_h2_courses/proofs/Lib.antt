@@ -8,3 +8,6 @@ pub mod FailLaws
 pub mod OwnCallLaws
 pub mod FreshWindows
 pub mod StreamWindowLaws
+pub mod TableSteps
+pub mod TableLaws
+pub mod FillingLaws

@@ -5,3 +5,5 @@ pub mod Texts
 pub mod Failing
 pub mod OwnCalls
 pub mod StreamWindows
+pub mod Tables
+pub mod Filling

@@ -3,6 +3,8 @@ use Rattle.std.proofs.Common.{◌≡◌, ◌&&◌, ◌||◌, ◌<◌, ◌⊎◌,
 use Rattle.kn_packet.specs.declared.packet.Packet.{Packet}
 use Rattle.kn_packet.specs.declared.packet.Packet.TheVariants.{CloseReq, CloseRsp, Data, DialCls, DialReq, DialRsp, Drain, Other}
 use Rattle.kn_server_core.specs.Isolation.{Each}
+use Rattle.kn_connect.specs.Replies.{status_and_reason}
+use Rattle.kn_connect.specs.Statuses.{error_status, reply_length}
 use Rattle.kn_world.specs.declared.parts.App.{App}
 use Rattle.kn_world.specs.declared.parts.Client.{Client}
 use Rattle.kn_world.specs.declared.parts.Home.TheVariants as home
@@ -76,7 +78,7 @@ still_dialling s (inr e) (inl g) = cc
 still_dialling s (inr e) (inr g) = cc
 
 abbrev refusing : ℕ → App → App
-refusing status a = record a { error = door.refusal_text status; stage = stage.Refused; door = record a.door { early = []; reply = door.reply_len status } }
+refusing status a = record a { error = status_and_reason status; stage = stage.Refused; door = record a.door { early = []; reply = reply_length status } }
 
 refused_kept : (status : ℕ) (a : App) → a.door.closing ≡ false → HeardKept a (door.refused status a)
 refused_kept status a e = kept_both a (refusing status a) (door.took_freely a.side.held (refusing status a))
@@ -84,7 +86,7 @@ refused_kept status a e = kept_both a (refusing status a) (door.took_freely a.si
     (freely_kept a.side.held (refusing status a))
 
 abbrev opening : App → App
-opening a = record a { stage = stage.Open; door = door.with_reply 39 a.door }
+opening a = record a { stage = stage.Open; door = door.with_reply (reply_length 200) a.door }
 
 opened_kept : (a : App) → (IsPast a → ⊥) → HeardKept a (door.opened a)
 opened_kept a here = kept_both a (opening a) (door.took_freely a.side.held (opening a))
@@ -114,7 +116,7 @@ not_past a here e (inr ends) = cc (e, ends)
 
 answered_kept : (error : List ℕ) (a : App) → (HasLeft a.stage → ⊥) → a.door.closing ≡ false → HeardKept a (door.answered error a)
 answered_kept [] a here e = opened_kept a (not_past a here e)
-answered_kept (x ∷ xs) a here e = refused_kept (door.error_status (x ∷ xs)) a e
+answered_kept (x ∷ xs) a here e = refused_kept (error_status (x ∷ xs)) a e
 
 packet_kept : (p : Packet) (a : App) → (HasLeft a.stage → ⊥) → a.door.closing ≡ false → HeardKept a (door.heard p a)
 packet_kept (DialRsp error connect_id random) a here e = answered_kept error a here e

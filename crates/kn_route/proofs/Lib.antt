@@ -6,6 +6,8 @@ pub mod HostLemmas
 pub mod HostTextLemmas
 pub mod LinkLemmas
 pub mod ListLemmas
+pub mod ListingLaws
 pub mod ListingLemmas
+pub mod PickLemmas
 pub mod PlaceLemmas
 pub mod RangeLemmas

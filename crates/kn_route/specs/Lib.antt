@@ -8,8 +8,10 @@ pub mod Identifiers
 pub mod Kinds
 pub mod LinkLists
 pub mod Listing
+pub mod Listings
 pub mod Lists
 pub mod Meanings
+pub mod Picks
 pub mod Places
 pub mod Ranges
 pub mod Steps

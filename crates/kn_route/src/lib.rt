@@ -26,7 +26,7 @@ pub use id_kind::IdKind;
 pub use identifiers::{IDENTIFIERS_LIMIT, IdFault, Identifiers};
 pub use laws::{
     addresses_as_spelled, fits_by_table, hosts_as_spelled, identifiers_as_spelled,
-    ranges_as_spelled, strategies_as_spelled,
+    listings_by_lines, picks_by_strategy, ranges_as_spelled, strategies_as_spelled,
 };
 pub use links::Links;
 pub use listing::{ListingFault, read_links, show_choice};

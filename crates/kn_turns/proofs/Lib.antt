@@ -7,3 +7,4 @@ pub mod Runs
 pub mod ServerLosses
 pub mod EndLosses
 pub mod AllTurns
+pub mod Promised

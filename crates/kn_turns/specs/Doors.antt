@@ -38,7 +38,7 @@ joined a = record a { door = record a.door { early = all_joined a.door.early } }
 abbrev pub joins : ℕ → State → State
 joins k s = record s { apps = change joined k s.apps }
 
--- ---- the server loses the front right behind the end of the tunnel: nothing of the app is kept, and it has no end to tell, but what came for it may be taken
+-- ---- the server loses the front right behind the end of the tunnel: nothing of the app is kept, and it has no end to tell. What came for it may still be taken
 abbrev pub front_gone : App → App
 front_gone a = record a { side = side.end_told a.side; door = record a.door { at_server = false; early = [] } }
 
@@ -49,20 +49,22 @@ loses_front k s = server.step 0 (FrontLost (apps.front_of (nth k s.apps))) (reco
 abbrev pub OfDoor : (App → Type 0) → ℕ → State → Type 0
 OfDoor P k s = (a : App) × (nth k s.apps ≡ Some a) × (a.home ≡ home.Connect) × P a
 
--- its head is not whole, or is
+-- its head is not whole
 abbrev pub IsUnheard : App → Type 0
 IsUnheard a = a.door.number ≡ 0
 
 abbrev pub IsFresh : App → Type 0
 IsFresh a = (a.door.number ≡ 0) × (a.stage ≡ Dialling)
 
+-- its head was whole
 abbrev pub IsHeard : App → Type 0
 IsHeard a = (n : ℕ) × (a.door.number ≡ suc n)
 
--- the server takes bytes of it; it takes what it kept; the app was not told of as left
+-- the server keeps bytes of it
 abbrev pub MayHand : App → Type 0
 MayHand a = IsHeard a × (a.door.closing ≡ false) × ((a.stage ≡ Dialling) ⊎ (a.stage ≡ Open))
 
+-- the server takes what it kept
 abbrev pub IsAnswered : App → Type 0
 IsAnswered a = IsHeard a × ((a.stage ≡ Open) ⊎ (a.door.closing ≡ true))
 
@@ -70,5 +72,6 @@ IsAnswered a = IsHeard a × ((a.stage ≡ Open) ⊎ (a.door.closing ≡ true))
 abbrev pub IsOver : App → Type 0
 IsOver a = IsHeard a × (a.door.closing ≡ true) × (a.door.at_server ≡ true)
 
+-- the server was not told that it ended its sending
 abbrev pub HasNotLeft : App → Type 0
 HasNotLeft a = a.side.end_given ≡ false

@@ -3,3 +3,4 @@ pub mod Losses
 pub mod Notes
 pub mod Laws
 pub mod Turns
+pub mod Promises

@@ -4,4 +4,4 @@
 
 mod laws;
 
-pub use laws::{runs_lead, turns_lead};
+pub use laws::{runs_lead, turns_keep_promises, turns_lead};
