@@ -38,7 +38,7 @@ use Rattle.kn_server_node.specs.CoreEvents.{step_events}
 use Rattle.kn_server_node.specs.FrontRooms.{waiting_on, waiting_at, waiting_for, NoneStandsOn, AreAlone, HaveRoom, AreInTime, DropsNone, after_core}
 use Rattle.kn_server_node.proofs.MemberLemmas.{inserted_others}
 use Rattle.kn_server_node.proofs.FrontRoomLemmas.{events_drop_none}
-use Rattle.kn_server_courses.specs.Courses.{Deed, Begin, Make, HandOut, MayBegin, Leads, CallsLead, finds}
+use Rattle.kn_server_courses.specs.Courses.{dial_finds, dial_event, Deed, Begin, Make, HandOut, MayBegin, Leads, CallsLead, finds}
 use Rattle.kn_server_courses.proofs.ChangeLemmas.{changed_end, changed_at}
 use Rattle.kn_server_courses.proofs.FrontBaseLemmas.{each_at, each_more, events_for, Known, KnowsDoor, Calm}
 use Rattle.kn_server_courses.proofs.CalmLemmas.{on_door_calm, took_calm, lost_calm, refused_calm, fed_noisy}
@@ -198,9 +198,8 @@ up_ends : (front : ℕ) (node : Node) → (event (FrontUp front) node).ends ≡ 
 unfolding event
 up_ends front node = refl
 
-up_inv : (node : Node) (conn : ℕ) (target early : List ℕ) (d : Door) → at node.ends conn ≡ Some (Connect d) → d.front ≡ None → Inv node → Inv (door_up conn target early node)
-unfolding door_up
-up_inv node conn target early d there unclaimed i = ready_inv up (FrontPacket front (DialReq (codes "tcp") target (pos 0))) dial
+up_dial : (node : Node) (conn : ℕ) (target early : List ℕ) (d : Door) → at node.ends conn ≡ Some (Connect d) → d.front ≡ None → Inv node → Ready (dial_finds conn early node) (dial_event node target)
+up_dial node conn target early d there unclaimed i = dial
   where
     front : ℕ
     front = node.core.fronts.top + 1
@@ -222,6 +221,14 @@ up_inv node conn target early d there unclaimed i = ready_inv up (FrontPacket fr
 
     dial : Ready up (FrontPacket front (DialReq (codes "tcp") target (pos 0)))
     dial = dial_ready up front conn target (door.begun front early d) (ap (λ (m : Members Place). at m front) (up_fronts front placed) ∙ at_inserted node.fronts front (place_of conn 0) i.0.fronts) (ap (λ (m : Members End). at m conn) (up_ends front placed) ∙ begun_there) up_i
+
+up_inv : (node : Node) (conn : ℕ) (target early : List ℕ) (d : Door) → at node.ends conn ≡ Some (Connect d) → d.front ≡ None → Inv node → Inv (door_up conn target early node)
+unfolding door_up
+up_inv node conn target early d there unclaimed i = ready_inv (dial_finds conn early node) (dial_event node target) (up_dial node conn target early d there unclaimed i)
+
+up_is : (node : Node) (conn : ℕ) (target early : List ℕ) → door_up conn target early node ≡ event (dial_event node target) (dial_finds conn early node)
+unfolding door_up
+up_is node conn target early = refl
 
 whole_inv : (node : Node) (conn : ℕ) (target early : List ℕ) (d : Door) → at node.ends conn ≡ Some (Connect d) → d.front ≡ None → Inv node → Inv (head_whole conn target early node)
 whole_inv node conn target early d there unclaimed i = by_room (has_no_front node)
@@ -308,6 +315,21 @@ pub none_dropped : (strategies : List Strategy) (id : List ℕ) (deeds : List De
 none_dropped strategies id deeds node s e leads may is =
     let rung = (step_sound node s may (leads_inv (start strategies id) deeds node leads (start_inv strategies id))).rings e is in
     (rung.0, ready_drops (finds node s) e rung.1)
+
+head_dials : (old : Node) (conn : ℕ) (d : Door) (held target early : List ℕ) → at old.ends conn ≡ Some (Connect d) → d.front ≡ None → Inv old
+    → Ready (dial_finds conn early (on_end conn (on_door (door.with_head held)) old)) (dial_event (on_end conn (on_door (door.with_head held)) old) target)
+head_dials old conn d held target early there unclaimed i =
+    up_dial (on_end conn (on_door (door.with_head held)) old) conn target early (door.with_head held d) (changed_at old.ends conn (on_door (door.with_head held)) ∙ ap (changed_end (on_door (door.with_head held))) there) unclaimed
+    (calm_inv old conn (on_door (door.with_head held)) (head_calm held) i)
+
+pub dials_drop_none : (strategies : List Strategy) (id : List ℕ) (deeds : List Deed) (old : Node) (conn : ℕ) (d : Door) (held target early : List ℕ) (node : Node) → Leads (start strategies id) deeds old → at old.ends conn ≡ Some (Connect d) → d.front ≡ None
+    → node ≡ on_end conn (on_door (door.with_head held)) old
+    → (door_up conn target early node ≡ event (dial_event node target) (dial_finds conn early node)) × DropsNone (after_core (dial_event node target) (dial_finds conn early node)) (server.step (dial_finds conn early node).core (dial_event node target)).outs
+dials_drop_none strategies id deeds old conn d held target early node leads there unclaimed is =
+    let i = leads_inv (start strategies id) deeds old leads (start_inv strategies id) in
+    let ready : Ready (dial_finds conn early node) (dial_event node target) =
+    subst (λ (n : Node). Ready (dial_finds conn early n) (dial_event n target)) (sym is) (head_dials old conn d held target early there unclaimed i) in
+    (up_is node conn target early, ready_drops (dial_finds conn early node) (dial_event node target) ready)
 
 -- ---- whole calls
 

@@ -1,5 +1,5 @@
 -- What calls and steps lead to from a new node, and how the events of the core find the node.
-use Rattle.std.specs.Prelude.{◌≡◌, ℕ, ◌+◌, ◌<◌, Bool, List, [], ◌∷◌, ◌++◌, filter, Option, Some, None, Result, Ok, Err}
+use Rattle.std.specs.Prelude.{◌≡◌, ℕ, ◌+◌, ◌<◌, Bool, List, [], ◌∷◌, ◌++◌, filter, Option, Some, None, Result, Ok, Err, pos, codes}
 use Rattle.kn_hpack.specs.Fields.{Field}
 use Rattle.kn_route.specs.declared.strategy.Strategy.{Strategy}
 use Rattle.kn_grpc.specs.declared.call.Service.{Service}
@@ -14,6 +14,9 @@ use Rattle.kn_ends.specs.declared.heard.Heard.{Heard}
 use Rattle.kn_ends.specs.declared.who.Who.TheVariants as who
 use Rattle.kn_ends.specs.Carriers.{taken_from}
 use Rattle.kn_rising.specs.Members.{at, inserted}
+use Rattle.kn_server_core.specs.declared.event.ServerEvent.TheVariants.{FrontUp, FrontPacket}
+use Rattle.kn_packet.specs.declared.packet.Packet.TheVariants.{DialReq}
+use Rattle.kn_server_node.specs.declared.door.Door.{Door}
 use Rattle.kn_server_node.specs.declared.end.End.{End}
 use Rattle.kn_server_node.specs.declared.end.End.TheVariants.{Streams, Connect}
 use Rattle.kn_server_node.specs.declared.loss.Loss.{Loss}
@@ -22,7 +25,7 @@ use Rattle.kn_server_node.specs.declared.node.Node.{Node}
 use Rattle.kn_server_node.specs.Doors as door
 use Rattle.kn_server_node.specs.Ends.{on_carrier, on_door}
 use Rattle.kn_server_node.specs.Nodes.{on_end, event, link_ended, front_ended, count_up}
-use Rattle.kn_server_node.specs.Callers.{counts, place_of, answered_call, call_for, for_agents_in}
+use Rattle.kn_server_node.specs.Callers.{counts, place_of, door_up, answered_call, call_for, for_agents_in}
 use Rattle.kn_server_node.specs.Steps.{Step, Follow, Hear, Handle, Look, Write, Forget, MayDo, after_step}
 use Rattle.kn_server_node.specs.Calls.{Called, Opened, Bytes, Took, Lost, Does, Handling, start}
 use Rattle.kn_server_node.specs.CoreEvents.{step_events}
@@ -118,3 +121,19 @@ NoneIsDropped = (strategies : List Strategy) (id : List ℕ) (deeds : List Deed)
 -- what calls lead to is what their deeds lead to
 abbrev pub CallsAreDeeds : Type 0
 CallsAreDeeds = (old : Node) (calls : List Called) (new : Node) → CallsLead old calls new → (deeds : List Deed) × Leads old deeds new
+
+-- ---- the dial that a head of CONNECT asks for
+
+-- its front has a place, and came up
+abbrev pub dial_finds : ℕ → List ℕ → Node → Node
+dial_finds conn early node =
+    event (FrontUp (node.core.fronts.top + 1)) (on_end conn (on_door (door.begun (node.core.fronts.top + 1) early)) (record node { fronts = inserted node.fronts (node.core.fronts.top + 1) (place_of conn 0); past_fronts = filter (counts node.ends) node.past_fronts }))
+
+abbrev pub dial_event : Node → List ℕ → ServerEvent
+dial_event node target = FrontPacket (node.core.fronts.top + 1) (DialReq (codes "tcp") target (pos 0))
+
+-- Whatever came before, the dial of a head drops no packet for a front; a head has no front before, and keeps what it holds.
+abbrev pub DialsDropNone : Type 0
+DialsDropNone = (strategies : List Strategy) (id : List ℕ) (deeds : List Deed) (old : Node) (conn : ℕ) (d : Door) (held target early : List ℕ) (node : Node) → Leads (start strategies id) deeds old → at old.ends conn ≡ Some (Connect d) → d.front ≡ None
+    → node ≡ on_end conn (on_door (door.with_head held)) old
+    → (door_up conn target early node ≡ event (dial_event node target) (dial_finds conn early node)) × DropsNone (after_core (dial_event node target) (dial_finds conn early node)) (server.step (dial_finds conn early node).core (dial_event node target)).outs

@@ -1,6 +1,6 @@
 //! Laws over all that calls and steps lead to from a new node.
 
-ghost use Rattle.kn_server_courses.specs.Courses.{FrontsHaveRoom, NoneIsDropped, CallsAreDeeds};
+ghost use Rattle.kn_server_courses.specs.Courses.{FrontsHaveRoom, NoneIsDropped, DialsDropNone, CallsAreDeeds};
 ghost use Rattle.kn_server_courses.specs.Holding.{OnlyPausesHold, OnlyPausesHoldEarly};
 
 /// Whatever comes, each front stands alone on its stream and at most 4,644,864 bytes wait for it; and no step drops a
@@ -8,6 +8,7 @@ ghost use Rattle.kn_server_courses.specs.Holding.{OnlyPausesHold, OnlyPausesHold
 pub fn no_packet_for_a_front_is_ever_dropped()
     ensures room { FrontsHaveRoom }
     ensures steps { NoneIsDropped }
+    ensures dials { DialsDropNone }
 {}
 
 /// What whole calls lead to is what their own parts and their steps lead to, one after another.
