@@ -65,6 +65,8 @@ pub mod LeadsLinks
 pub mod LeadsUp
 pub mod NumberLemmas
 pub mod OwnDials
+pub mod OwnParts
+pub mod OwnRuns
 pub mod Pairs
 pub mod Promises
 pub mod Rounds

@@ -4,6 +4,7 @@ pub mod Fits
 pub mod Headline
 pub mod Homes
 pub mod Leads
+pub mod OwnBytes
 pub mod Requests
 pub mod Settled
 pub mod Shown
