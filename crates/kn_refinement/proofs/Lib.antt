@@ -63,6 +63,7 @@ pub mod Joined
 pub mod LeadsFronts
 pub mod LeadsLinks
 pub mod LeadsUp
+pub mod NamedLinks
 pub mod NumberLemmas
 pub mod OwnDials
 pub mod OwnParts
@@ -85,4 +86,5 @@ pub mod SettledAll
 pub mod SettledMoves
 pub mod SettledRuns
 pub mod ShownChanges
+pub mod UndialledApps
 pub mod Worlds

@@ -4,7 +4,9 @@ pub mod Fits
 pub mod Headline
 pub mod Homes
 pub mod Leads
+pub mod Named
 pub mod OwnBytes
 pub mod Requests
 pub mod Settled
 pub mod Shown
+pub mod Undialled

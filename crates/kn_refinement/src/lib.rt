@@ -7,8 +7,10 @@ mod choice_laws;
 mod client_laws;
 mod connect_laws;
 mod laws;
+mod named_laws;
 mod server_event_laws;
 mod server_laws;
+mod undialled_laws;
 
 pub use agent_laws::{agents_lead, destinations_lead};
 pub use choice_laws::{choices_decide, requests_go_where_picked};
@@ -17,5 +19,7 @@ pub use connect_laws::connects_lead;
 pub use laws::{
     events_are_moves, sides_send_their_own_bytes, worlds_begin_alike, worlds_keep_their_promises,
 };
+pub use named_laws::choices_name_all_links;
 pub use server_event_laws::server_events_lead;
 pub use server_laws::server_steps_are_moves;
+pub use undialled_laws::{connect_apps_get_nothing_undialled, unanswered_apps_have_no_dial};
