@@ -4,3 +4,4 @@ pub mod Steps
 pub mod Calls
 pub mod Answers
 pub mod Announced
+pub mod Missing

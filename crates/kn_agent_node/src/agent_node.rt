@@ -5,6 +5,7 @@ ghost use Rattle.kn_agent_node.specs.Calls as call;
 ghost use Rattle.kn_agent_node.specs.Calls.{Bytes, Took, Ended, Lost, Begins, NotBegun, Dialled, Drains, Handling};
 ghost use Rattle.kn_agent_node.specs.Answers as answer;
 ghost use Rattle.kn_agent_node.specs.Announced as announced_spec;
+ghost use Rattle.kn_agent_node.specs.Missing.{missing_of};
 
 use crate::node::Node;
 use crate::settling::settle;
@@ -191,6 +192,16 @@ impl AgentNode {
         ensures { result ≡ answer.bare_of self.now conn }
     {
         answers::bare(&self.node, conn)
+    }
+
+    /// How many bytes are missing on the server's connection to the end of the preface, of the head of a frame, or of
+    /// its payload. Of every other connection, and of one that was lost or has failed, each byte stands by itself: it
+    /// is 1. Takes no memory.
+    pub fn missing(&self, conn: u64) -> usize
+        ensures value { result ≡ missing_of self.now conn }
+        ensures some { 1 ≤ result }
+    {
+        answers::missing(&self.node, conn)
     }
 
     /// The connectID of a destination's connection.

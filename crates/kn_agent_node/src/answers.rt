@@ -1,9 +1,10 @@
 //! What the node answers of a connection.
 
-ghost use Rattle.std.specs.Prelude.{◌≡◌};
+ghost use Rattle.std.specs.Prelude.{◌≡◌, ◌≤◌};
 ghost use Rattle.kn_edge_core.specs.AgentTables.{connection_at};
 ghost use Rattle.kn_rising.specs.Members.{at};
 ghost use Rattle.kn_agent_node.specs.Answers as answer;
+ghost use Rattle.kn_agent_node.specs.Missing.{missing_of};
 
 use crate::calls::purpose_at;
 use crate::node::Node;
@@ -95,6 +96,18 @@ pub fn bare(node: &Node, conn: u64) -> bool
         server_is_bare(node)
     } else {
         true
+    }
+}
+
+/// How many bytes of a connection are missing to the end of what is under way on it.
+pub fn missing(node: &Node, conn: u64) -> usize
+    ensures value { result ≡ missing_of node.now conn }
+    ensures some { 1 ≤ result }
+{
+    if conn == node.server {
+        kn_ends::missing(&node.carrier)
+    } else {
+        1
     }
 }
 

@@ -1,20 +1,14 @@
 -- What the heads of our own calls are to a connection of HTTP/2 (RFC 9113, sections 8.1 and 8.3).
-use Rattle.std.specs.Prelude.{◌≡◌, ℕ, ◌+◌, ◌^◌, ◌<◌, ◌≤◌, false, List, [], ◌∷◌, ◌++◌, length}
+use Rattle.std.specs.Prelude.{◌≡◌, ℕ, ◌+◌, ◌^◌, ◌<◌, ◌≤◌, false, List, [], ◌∷◌, length}
 use Rattle.std.specs.List.{list_any}
 use Rattle.kn_hpack.specs.Strings.{IsBytes}
 use Rattle.kn_hpack.specs.Fields.{Field}
 use Rattle.kn_hpack.specs.RoundTrip.{IsSmallList}
 use Rattle.kn_grpc.specs.declared.call.Service.{Service}
 use Rattle.kn_grpc.specs.declared.call.CallFault.{CallFault}
-use Rattle.kn_grpc.specs.CallHeads.{content_type, agent_fields, request_fields, server_fields, status_field, grpc_status, refusal_fields}
+use Rattle.kn_grpc.specs.CallHeads.{grpc_status, refusal_fields}
+use Rattle.kn_grpc.specs.OwnHeads.{call_fields, answer_fields}
 use Rattle.kn_h2_state.specs.Heads.{is_pseudo, is_bad_name, is_malformed_request, is_malformed_response, is_informational}
-
--- the head of a call, and that of its answer
-abbrev pub call_fields : Service → List ℕ → List ℕ → List ℕ → List Field
-call_fields service authority id identifiers = request_fields service authority ++ agent_fields service id identifiers
-
-abbrev pub answer_fields : Service → List ℕ → ℕ → List Field
-answer_fields service id count = (status_field 200 ∷ content_type ∷ []) ++ server_fields service id count
 
 -- a server takes them as a request, which is not malformed
 abbrev pub CallsAreRequests : Type 0

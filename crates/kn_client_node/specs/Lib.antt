@@ -3,3 +3,4 @@ pub mod Streams
 pub mod Nodes
 pub mod Steps
 pub mod Calls
+pub mod Missing

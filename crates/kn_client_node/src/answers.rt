@@ -1,9 +1,10 @@
 //! What the node answers of a connection.
 
-ghost use Rattle.std.specs.Prelude.{◌≡◌};
+ghost use Rattle.std.specs.Prelude.{◌≡◌, ◌≤◌};
 ghost use Rattle.kn_rising.specs.Members.{at};
 ghost use Rattle.kn_client_node.specs.Nodes as spec;
 ghost use Rattle.kn_client_node.specs.Calls as call;
+ghost use Rattle.kn_client_node.specs.Missing.{missing_of};
 
 use crate::node::Node;
 use crate::sending::queue_len;
@@ -122,6 +123,18 @@ pub fn bare(node: &Node, conn: u64) -> bool
         server_is_bare(node)
     } else {
         true
+    }
+}
+
+/// How many bytes of a connection are missing to the end of what is under way on it.
+pub fn missing(node: &Node, conn: u64) -> usize
+    ensures value { result ≡ missing_of node.now conn }
+    ensures some { 1 ≤ result }
+{
+    if conn == node.server {
+        kn_ends::missing(&node.carrier)
+    } else {
+        1
     }
 }
 

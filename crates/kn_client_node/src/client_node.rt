@@ -2,6 +2,7 @@ ghost use Rattle.std.specs.Prelude.{◌≡◌, ◌==◌, ◌<◌, ◌≤◌, ℕ
 ghost use Rattle.std.specs.List.{list_any};
 ghost use Rattle.kn_client_node.specs.Calls as call;
 ghost use Rattle.kn_client_node.specs.Calls.{Bytes, Took, Ended, Lost, App, Handling, HandsOut};
+ghost use Rattle.kn_client_node.specs.Missing.{missing_of};
 
 use crate::endings::Endings;
 use crate::node::Node;
@@ -176,6 +177,16 @@ impl ClientNode {
         ensures { result ≡ call.bare_of self.now conn }
     {
         answers::bare(&self.node, conn)
+    }
+
+    /// How many bytes are missing on the server's connection to the end of the preface, of the head of a frame, or of
+    /// its payload. Of every other connection, and of one that was lost or has failed, each byte stands by itself: it
+    /// is 1. Takes no memory.
+    pub fn missing(&self, conn: u64) -> usize
+        ensures value { result ≡ missing_of self.now conn }
+        ensures some { 1 ≤ result }
+    {
+        answers::missing(&self.node, conn)
     }
 
     /// The number of the app of a connection, while it is on the client's list.

@@ -4,3 +4,4 @@ pub mod Room
 pub mod Cuts
 pub mod Refused
 pub mod Answered
+pub mod ReplyLengths

@@ -4,3 +4,4 @@ pub mod Places
 pub mod Readings
 pub mod Fronts
 pub mod Replies
+pub mod Statuses

@@ -9,12 +9,14 @@ mod front;
 mod laws;
 mod reading;
 mod replying;
+mod statuses;
 mod walk;
 
 pub use answer::{ConnectAnswer, ConnectError, ConnectFault};
 pub use front::ConnectFront;
 pub use laws::answers_are_one;
 pub use replying::reply;
+pub use statuses::{error_status, fault_status, reply_len, status_line};
 
 #[cfg(test)]
 mod tests;

@@ -1,5 +1,8 @@
 //! Heads from the standards, in one piece, byte by byte, and cut at each place.
-use crate::{ConnectAnswer, ConnectError, ConnectFault, ConnectFront, answers_are_one, reply};
+use crate::{
+    ConnectAnswer, ConnectError, ConnectFault, ConnectFront, answers_are_one, error_status,
+    fault_status, reply, reply_len, status_line,
+};
 use kn_io::{Blob, Text};
 use std::alloc::Global;
 use std::test::Fail;
@@ -219,4 +222,19 @@ fn replies(rt: HostRuntime) {
         reply(503),
         "HTTP/1.1 503 Service Unavailable\r\nContent-Length: 0\r\nConnection: close\r\n\r\n"
     );
+}
+
+#[test]
+fn statuses_and_lengths(rt: HostRuntime) {
+    assert_eq!(rt; fault_status(ConnectFault::BadHead), 400);
+    assert_eq!(rt; fault_status(ConnectFault::NotConnect), 405);
+    assert_eq!(rt; fault_status(ConnectFault::TooLong), 431);
+    assert_eq!(rt; error_status("bad address"), 400);
+    assert_eq!(rt; error_status("no agent available"), 503);
+    assert_eq!(rt; error_status("dial numbers used up"), 503);
+    assert_eq!(rt; error_status("refused"), 502);
+    assert_eq!(rt; status_line(502), "502 Bad Gateway");
+    assert_eq!(rt; reply_len(200), 39);
+    assert_eq!(rt; reply_len(405), 89);
+    assert_eq!(rt; reply_len(503), 74);
 }

@@ -2,3 +2,4 @@ pub mod Numbers
 pub mod Inlets
 pub mod Queues
 pub mod Carriers
+pub mod Missing

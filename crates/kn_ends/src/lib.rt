@@ -10,6 +10,7 @@ mod packet_queue;
 mod standing;
 mod streams;
 mod told;
+mod under_way;
 mod who;
 
 pub use carrier::{
@@ -25,4 +26,5 @@ pub use standing::{
 };
 pub use streams::{add_inlet, answer, begin, reset};
 pub use told::Told;
+pub use under_way::missing;
 pub use who::Who;

@@ -6,3 +6,4 @@ pub mod Limits
 pub mod Pieces
 pub mod Listed
 pub mod Written
+pub mod MissingBytes

@@ -1,12 +1,13 @@
 ghost use Rattle.std.specs.Prelude.{◌≡◌, ◌<◌, ◌≤◌, ◌++◌, length, true};
 ghost use Rattle.kn_frames.specs.Frames.{KeepsLimits};
 ghost use Rattle.kn_frames.specs.Readers.{start, after_bytes, frames_in, Told, fault_of, fault_in};
+ghost use Rattle.kn_frames.specs.Missing.{missing};
 ghost use Rattle.kn_frames.specs.Cutters.{is_sound};
 
 use crate::fault::Phase;
 use crate::front::Front;
 use crate::state::State;
-use crate::{CutError, Frame, steps};
+use crate::{CutError, Frame, missing, steps};
 use kn_io::Blob;
 use std::alloc::Global;
 use std::marker::Model;
@@ -81,6 +82,15 @@ impl Cutter {
         ensures bound { result ≤ 16393 }
     {
         self.state.front.len() + self.state.body.len()
+    }
+
+    /// How many bytes are missing to the end of the preface, of the head of nine bytes, or of the payload under
+    /// way. After a fault each byte stands by itself: it is 1. Takes no memory.
+    pub fn missing(&self) -> usize
+        ensures value { result ≡ missing self.now }
+        ensures some { 1 ≤ result }
+    {
+        missing::left(&self.state)
     }
 
     /// How many bytes came before those that are held. It stays at 2^64 - 1 once it has reached it.
@@ -231,5 +241,34 @@ mod tests {
             assert_eq!(rt; answer, Err(CutError::Fault(fault)));
         }
         assert_eq!(rt; cutter.held(), 0);
+    }
+
+    #[test]
+    fn what_is_missing(rt: HostRuntime) -> Result<(), Fail> {
+        let mut cutter = Cutter::new(rt.alloc(), true);
+        let mut frames = Vec::new(rt.alloc());
+        let table = [
+            ("before the preface", b"".as_slice(), 24, 0),
+            ("inside it", b"PRI * HTTP/2.0\r\n", 8, 0),
+            ("after it", b"\r\nSM\r\n\r\n", 9, 0),
+            ("inside a head", b"\x00\x00\x03\x06", 5, 0),
+            ("after a head", b"\x01\x00\x00\x00\x00", 3, 0),
+            ("inside a payload", b"hi", 1, 0),
+            ("after a frame", b"!", 9, 1),
+            (
+                "after an empty frame",
+                b"\x00\x00\x00\x04\x01\x00\x00\x00\x00",
+                9,
+                2,
+            ),
+        ];
+        for (name, piece, want, count) in table {
+            cutter.feed(rt.alloc(), piece, &mut frames)?;
+            assert_eq!(rt; cutter.missing(), want, "{name}");
+            assert_eq!(rt; frames.len(), count, "{name}");
+        }
+        let _fault = cutter.feed(rt.alloc(), b"\x01", &mut frames);
+        assert_eq!(rt; cutter.missing(), 1, "after a fault");
+        Ok(())
     }
 }

@@ -10,6 +10,7 @@ mod head;
 mod laws;
 mod lines;
 mod listing;
+mod missing;
 mod state;
 mod steps;
 
@@ -18,3 +19,4 @@ pub use fault::{CutError, FrameFault, FrameReason};
 pub use frame::{Frame, PREFACE, write_head};
 pub use laws::{any_pieces, cut_as_spelled, listed_as_spelled, read_as_written};
 pub use listing::{ListingError, ListingFault, ListingReason, frame_lines};
+pub use missing::ends_with_the_missing;

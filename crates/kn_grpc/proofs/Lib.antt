@@ -11,3 +11,4 @@ pub mod PacketReadings
 pub mod FirstPackets
 pub mod Segments
 pub mod OwnCalls
+pub mod KeptBytes

@@ -1,9 +1,11 @@
+pub mod CallHeads
+pub mod Calls
+pub mod Courses
+pub mod Fronts
+pub mod Kept
 pub mod Messages
+pub mod OwnHeads
+pub mod Packets
+pub mod Paths
 pub mod Readers
 pub mod Stored
-pub mod Fronts
-pub mod Courses
-pub mod CallHeads
-pub mod Packets
-pub mod Calls
-pub mod Paths

@@ -1,6 +1,7 @@
 ghost use Rattle.std.specs.Prelude.{◌≡◌, [], ◌∷◌, ◌++◌, IfOk, OnOk, decimal};
 ghost use Rattle.kn_hpack.specs.Fields.{pair};
 ghost use Rattle.kn_grpc.specs.CallHeads.{content_type, path_of, agent_fields, request_fields, server_count, server_fields, status_field, grpc_status, refusal_fields};
+ghost use Rattle.kn_grpc.specs.OwnHeads.{call_fields, answer_fields};
 
 use crate::call::{CallFault, Service};
 use itoa::Buffer;
@@ -122,7 +123,7 @@ pub fn call_head(
     agent_id: &str,
     identifiers: &str,
 ) -> Result<Headers, NoMemory>
-    ensures { IfOk result (λ h. h ≡ request_fields service authority.now ++ agent_fields service agent_id.now identifiers.now) }
+    ensures { IfOk result (λ h. h ≡ call_fields service authority.now agent_id.now identifiers.now) }
 {
     let mut headers = request(alloc, service, authority)?;
     add_agent(alloc, &mut headers, service, agent_id, identifiers)?;
@@ -137,7 +138,7 @@ pub fn answer_head(
     server_id: &str,
     count: u32,
 ) -> Result<Headers, NoMemory>
-    ensures { IfOk result (λ h. h ≡ (status_field 200 ∷ content_type ∷ []) ++ server_fields service server_id.now count) }
+    ensures { IfOk result (λ h. h ≡ answer_fields service server_id.now count) }
 {
     let mut headers = Headers::new(alloc);
     add_status(alloc, &mut headers, 200)?;

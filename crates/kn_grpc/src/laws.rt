@@ -13,7 +13,7 @@ ghost use Rattle.kn_grpc.specs.declared.call.Service.{Service};
 ghost use Rattle.kn_grpc.specs.Paths.{segments_of, EndsIn};
 ghost use Rattle.kn_grpc.specs.declared.call.Service.TheVariants.{Agent, Proxy};
 ghost use Rattle.kn_grpc.specs.Calls.{service_of, is_id, call_of, call_in};
-ghost use Rattle.kn_grpc.specs.CallHeads.{request_fields, agent_fields};
+ghost use Rattle.kn_grpc.specs.OwnHeads.{call_fields};
 ghost use Rattle.kn_route.specs.declared.id_kind.IdKind.{IdKind};
 ghost use Rattle.kn_route.specs.Identifiers.{identifiers_in};
 ghost use Rattle.std.specs.Str.{is_utf8};
@@ -109,6 +109,6 @@ pub fn paths_by_segments()
 /// The heads of this crate's own calls are read as these calls.
 pub fn own_calls_are_read()
     ensures agent { (authority id text : List ℕ) (pairs : List (IdKind × List ℕ)) → is_utf8 text ≡ true → identifiers_in text ≡ Ok pairs → is_id id ≡ true →
-        call_in (request_fields Agent authority ++ agent_fields Agent id text) ≡ Ok (call_of Agent id pairs) }
-    ensures proxy { (authority id text : List ℕ) → call_in (request_fields Proxy authority ++ agent_fields Proxy id text) ≡ Ok (call_of Proxy [] []) }
+        call_in (call_fields Agent authority id text) ≡ Ok (call_of Agent id pairs) }
+    ensures proxy { (authority id text : List ℕ) → call_in (call_fields Proxy authority id text) ≡ Ok (call_of Proxy [] []) }
 {}

@@ -28,3 +28,4 @@ pub mod AnsweredLemmas
 pub mod FrameWindows
 pub mod ConnectionWindows
 pub mod SpendingLemmas
+pub mod MissingLaws

@@ -10,3 +10,4 @@ pub mod Written
 pub mod Windows
 pub mod Answered
 pub mod Spending
+pub mod Missing

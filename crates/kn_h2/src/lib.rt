@@ -16,6 +16,7 @@ mod head_tests;
 mod header_blocks;
 mod heads;
 mod laws;
+mod missing;
 mod moves;
 mod openings;
 mod replies;
@@ -39,6 +40,7 @@ pub use call_laws::{
 pub use conn::Conn;
 pub use kn_h2_state::{BeginRefusal, Events, H2Event, QueueRefusal, Role};
 pub use laws::frames_keep;
+pub use missing::frames_end_with_the_missing;
 pub use sending::sending_laws;
 pub use steady::{ends_are_written, moves_tell_nothing, role_stays};
 

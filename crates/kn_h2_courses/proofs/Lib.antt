@@ -5,3 +5,9 @@ pub mod StreamSteps
 pub mod QueueLaws
 pub mod TextLaws
 pub mod FailLaws
+pub mod OwnCallLaws
+pub mod FreshWindows
+pub mod StreamWindowLaws
+pub mod TableSteps
+pub mod TableLaws
+pub mod FillingLaws

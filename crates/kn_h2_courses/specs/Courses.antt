@@ -115,11 +115,16 @@ abbrev pub grants : State → Act → ℕ
 grants s (Makes move) = granted_by 0 s move
 grants s _ = 0
 
+-- by how much a move grants the window of the stream
+abbrev pub grants_to : ℕ → State → Act → ℕ
+grants_to n s (Makes move) = granted_by n s move
+grants_to n s _ = 0
+
 -- ---- a life, in which one stream is looked at
 
 -- The connection, and all bytes that were fed. Of the stream: the text that came, and what was given of it; what was
--- queued, and what was sent of it; and whether the end of this end's half was written. Of the connection: how many
--- bytes of DATA were sent, and what was granted.
+-- queued, and what was sent of it; whether the end of this end's half was written; and what was granted of its window.
+-- Of the connection: how many bytes of DATA were sent, and what was granted.
 pub record Course : Type 0 where
   pub connection : Connection
   pub fed : List ℕ
@@ -128,12 +133,13 @@ pub record Course : Type 0 where
   pub queued : List ℕ
   pub sent : List ℕ
   pub ended : Bool
+  pub returned : ℕ
   pub spent : ℕ
   pub granted : ℕ
 
 -- a new connection
 abbrev pub begins : Role → Course
-begins role = record { connection = fresh role; fed = []; heard = []; given = []; queued = []; sent = []; ended = false; spent = 0; granted = 0 }
+begins role = record { connection = fresh role; fed = []; heard = []; given = []; queued = []; sent = []; ended = false; returned = 0; spent = 0; granted = 0 }
 
 abbrev pub after_act : ℕ → Course → Act → Course
 after_act n c a = record {
@@ -144,6 +150,7 @@ after_act n c a = record {
   queued = c.queued ++ queued_by n a;
   sent = c.sent ++ sent_by n c.connection.state a;
   ended = c.ended || ended_by n a;
+  returned = c.returned + grants_to n c.connection.state a;
   spent = c.spent + spends_of a;
   granted = c.granted + grants c.connection.state a;
 }

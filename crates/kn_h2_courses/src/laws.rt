@@ -1,7 +1,10 @@
 ghost use Rattle.kn_h2_courses.specs.Failing.{FailsWhereFelled};
+ghost use Rattle.kn_h2_courses.specs.Filling.{MovesFillLittle};
 ghost use Rattle.kn_h2_courses.specs.Texts.{TextIsHeard};
 ghost use Rattle.kn_h2_courses.specs.Queues.{QueuedIsSent};
 ghost use Rattle.kn_h2_courses.specs.Windows.{DataIsSpent, WindowsAreSums};
+ghost use Rattle.kn_h2_courses.specs.StreamWindows.{StreamWindowsAreSums};
+ghost use Rattle.kn_h2_courses.specs.Tables.{TablesAreSmall};
 
 /// While a connection has not failed, its sending window is 65,535, more by all increments that came, less by all
 /// DATA that was sent; and its receiving window is 6,553,500, more by all that was granted, less by all DATA that came.
@@ -9,6 +12,13 @@ ghost use Rattle.kn_h2_courses.specs.Windows.{DataIsSpent, WindowsAreSums};
 pub fn connection_windows_are_sums()
     ensures sums { WindowsAreSums }
     ensures written { DataIsSpent }
+{}
+
+/// While a connection has not failed, the sending window of a stream that is open is the peer's initial size as it is
+/// now, more by all increments that came for the stream, less by what was sent on it. Its receiving window is 65,535,
+/// more by all that was granted of it, less by all DATA that came for it, with its padding.
+pub fn stream_windows_are_sums()
+    ensures { StreamWindowsAreSums }
 {}
 
 /// What was sent on a stream, followed by what waits, is the front of what was queued on it, and all of that until
@@ -27,4 +37,14 @@ pub fn text_is_heard()
 /// frames break a rule, or that is no frames, or the reply that is one too many.
 pub fn fails_where_felled()
     ensures { FailsWhereFelled }
+{}
+
+/// What a connection keeps of the header fields of its peer counts at most 4,096 bytes, whatever is done with it.
+pub fn tables_are_small()
+    ensures { TablesAreSmall }
+{}
+
+/// After a move at most 32,776 bytes wait for the socket, unless it ends a stream with trailers.
+pub fn moves_fill_little()
+    ensures { MovesFillLittle }
 {}

@@ -3,5 +3,10 @@
 #![tactic(auto)]
 
 mod laws;
+mod own_calls;
 
-pub use laws::{connection_windows_are_sums, fails_where_felled, queued_is_sent, text_is_heard};
+pub use laws::{
+    connection_windows_are_sums, fails_where_felled, moves_fill_little, queued_is_sent,
+    stream_windows_are_sums, tables_are_small, text_is_heard,
+};
+pub use own_calls::calls_change_their_stream;

@@ -5,27 +5,11 @@ use Rattle.kn_loop.specs.declared.turn.Turn.TheVariants as turn
 use Rattle.kn_net.specs.declared.end.End.{End}
 use Rattle.kn_net.specs.declared.end.End.TheVariants as end
 use Rattle.kn_options.specs.Asked.{Asks}
-use Rattle.kn_options.specs.declared.options.ServerOptions.{ServerOptions}
-use Rattle.kn_options.specs.declared.options.AgentOptions.{AgentOptions}
-use Rattle.kn_options.specs.declared.options.ClientOptions.{ClientOptions}
 use Rattle.kn_options.specs.declared.options.Options.{Options}
 use Rattle.kn_options.specs.declared.options.Options.TheVariants as options
 use Rattle.kn_port.specs.Answers.{Failing}
 use Rattle.kn_port.specs.declared.entry.Entry.{Entry}
 use Rattle.kn_serve.specs.Programs.{ServerRuns, AgentRuns, ClientRuns}
-use Rattle.kn_serve.specs.declared.words.ServerWords.{ServerWords}
-use Rattle.kn_serve.specs.declared.words.AgentWords.{AgentWords}
-use Rattle.kn_serve.specs.declared.words.ClientWords.{ClientWords}
-
--- what a program is told of its options
-abbrev pub server_words : ServerOptions → ServerWords
-server_words o = record { agents = o.agents; clients = o.clients; connect = o.connect; strategies = o.strategies; id = o.id; tunnels = o.tunnels; turns = o.turns }
-
-abbrev pub agent_words : AgentOptions → AgentWords
-agent_words o = record { server = o.server; id = o.id; identifiers = o.identifiers; drain = o.drain; tunnels = o.tunnels; turns = o.turns }
-
-abbrev pub client_words : ClientOptions → ClientWords
-client_words o = record { server = o.server; listen = o.listen; address = o.address; tunnels = o.tunnels; turns = o.turns }
 
 -- the address of a client's destination is one that an agent can be asked for
 abbrev pub HasShortAddress : Options → Type 0
@@ -35,9 +19,9 @@ HasShortAddress (options.Client o) = length o.address ≤ 1048576
 
 -- the program of these options made its turns, and the last one had this answer
 abbrev pub ProgramRuns : Options → Option (List Entry) → Option (List Entry) → Turn → Type 0
-ProgramRuns (options.Server o) told0 told1 answer = ServerRuns (server_words o) told0 told1 answer
-ProgramRuns (options.Agent o) told0 told1 answer = AgentRuns (agent_words o) told0 told1 answer
-ProgramRuns (options.Client o) told0 told1 answer = ClientRuns (client_words o) told0 told1 answer
+ProgramRuns (options.Server o) told0 told1 answer = ServerRuns o told0 told1 answer
+ProgramRuns (options.Agent o) told0 told1 answer = AgentRuns o told0 told1 answer
+ProgramRuns (options.Client o) told0 told1 answer = ClientRuns o told0 told1 answer
 
 -- what a port tells at a moment: its count of faults, and its journal
 pub record Network : Type 0 where

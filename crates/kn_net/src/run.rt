@@ -9,50 +9,11 @@ use crate::End;
 use crate::end::tell;
 use kn_io::Sink;
 use kn_loop::Turn;
-use kn_options::{AgentOptions, ClientOptions, Options, ServerOptions, read_options};
+use kn_options::{Options, read_options};
 use kn_port::Port;
-use kn_serve::{AgentWords, ClientWords, ServerWords, run_as_agent, run_as_client, run_as_server};
+use kn_serve::{run_as_agent, run_as_client, run_as_server};
 use std::alloc::Global;
 use std::sync::Wait;
-
-fn server_words(options: ServerOptions) -> ServerWords
-    ensures { result ≡ spec.server_words options }
-{
-    ServerWords {
-        agents: options.agents,
-        clients: options.clients,
-        connect: options.connect,
-        strategies: options.strategies,
-        id: options.id,
-        tunnels: options.tunnels,
-        turns: options.turns,
-    }
-}
-
-fn agent_words(options: AgentOptions) -> AgentWords
-    ensures { result ≡ spec.agent_words options }
-{
-    AgentWords {
-        server: options.server,
-        id: options.id,
-        identifiers: options.identifiers,
-        drain: options.drain,
-        tunnels: options.tunnels,
-        turns: options.turns,
-    }
-}
-
-fn client_words(options: ClientOptions) -> ClientWords
-    ensures { result ≡ spec.client_words options }
-{
-    ClientWords {
-        server: options.server,
-        listen: options.listen,
-        address: options.address,
-        tunnels: options.tunnels,
-        turns: options.turns,
-    }
-}
 
 /// Makes the turns of the program that the options ask for, until one is the last, and answers what that answered.
 fn run_turns<R: Wait, P: Port>(rt: &R, alloc: Global, options: Options, port: &mut P) -> Turn
@@ -62,9 +23,9 @@ fn run_turns<R: Wait, P: Port>(rt: &R, alloc: Global, options: Options, port: &m
     ensures counts { RunCounts result (P.faults port.old) (P.faults port.new) }
 {
     match options {
-        Options::Server(options) => run_as_server(rt, alloc, server_words(options), port),
-        Options::Agent(options) => run_as_agent(rt, alloc, agent_words(options), port),
-        Options::Client(options) => run_as_client(rt, alloc, client_words(options), port),
+        Options::Server(options) => run_as_server(rt, alloc, options, port),
+        Options::Agent(options) => run_as_agent(rt, alloc, options, port),
+        Options::Client(options) => run_as_client(rt, alloc, options, port),
     }
 }
 

@@ -70,7 +70,7 @@ not_made d t xs y none f named =
     absurd_if None some e = absurd cc
     absurd_if (Some z) some e = absurd cc
 
-either_none : (d : ℕ) → either d 0 ≡ d
+pub either_none : (d : ℕ) → either d 0 ≡ d
 either_none d = here (d == 0) refl
   where
     here : (b : Bool) → (d == 0) ≡ b → (if b then 0 else d) ≡ d
@@ -139,7 +139,7 @@ module _ (s : State) (link : ℕ) (fits : Fits s) (keys : Keys (shown s)) (a : A
 
 -- ---- bytes
 module _ (s : State) (link : ℕ) (fits : Fits s) (keys : Keys (shown s)) (a : Agent) (there : nth link s.agents ≡ Some a) (z : ℤ) (error bytes : List ℕ) (rest : List Packet) (down : a.down ≡ Data z error bytes ∷ rest) where
-  data_does : Does (s2 s link fits keys a there (Data z error bytes) rest down) link (either 0 (written_by (Data z error bytes) link (s1 s link fits keys a there (Data z error bytes) rest down))) (event.Packet (Data z error bytes))
+  pub data_does : Does (s2 s link fits keys a there (Data z error bytes) rest down) link (either 0 (written_by (Data z error bytes) link (s1 s link fits keys a there (Data z error bytes) rest down))) (event.Packet (Data z error bytes))
   data_does = here (connection_at z a.core.connections) refl
     where
       by : (c : Connection) → connection_at z a.core.connections ≡ Some c → (st : DestState) → c.state ≡ st
@@ -192,7 +192,7 @@ module _ (s : State) (link : ℕ) (fits : Fits s) (keys : Keys (shown s)) (a : A
       (connections_kept t2 link d (agents.rest_down a) there_now fit e (dial_begun a.core address (pos d))
       (asked_connections t2 link d (agents.rest_down a) there_now fit.agents address (pos d) (dials.requested x) at2 its_link refl (λ t y f n. not_made d t a.core.dials y once f n)) (λ z k. record { link = refl; connect_id = refl; dry = fit.agents.dry d z k }))
 
-  request_does : Does t2 link d e
+  pub request_does : Does t2 link d e
   request_does = here (nth d s.dials) refl
     where
       here : (o : Option Dial) → nth d s.dials ≡ o → Does t2 link d e

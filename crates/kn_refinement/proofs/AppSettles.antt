@@ -48,7 +48,7 @@ module _ (s : State) (k c n : ℕ) (a : App) (x : Client) (fits : Fits s) (keys 
   fits_told : Fits told_state
   fits_told = change_fits s k c n a x fits here apps.end_told keeps_told (λ within noted. noted)
 
-  ended_here : (b : Bool) → is_told n (Some x) ≡ b → ClientLeads s (step c (event.AppEnd n) told_state)
+  pub ended_here : (b : Bool) → is_told n (Some x) ≡ b → ClientLeads s (step c (event.AppEnd n) told_state)
   ended_here true told = then_step s told_state c (event.AppEnd n) x (AppEnds k) fits_told here.there (apps_rising s c x keys here.there) tt (λ m. refl) (changed_kept s k c n a x fits here apps.end_told keeps_told) (clients_as_they_were s.clients)
       (ap (λ b. b && not ((shown s).streams ((shown s).apps k).stream).connect) (came_is s k c n a x here told) ∙ ap (λ b. not b) (not_by_connect s k c n a x fits here told))
       (does_is s k c n a x fits here told (λ m. event.AppEnd m) ∙ ap (λ w. client_does c (event.AppEnd n) w) (sym (same_shown s k c n a x fits here apps.end_told keeps_told refl)))
@@ -56,7 +56,7 @@ module _ (s : State) (k c n : ℕ) (a : App) (x : Client) (fits : Fits s) (keys 
       (sym (nothing_stepped told_state c (event.AppEnd n) x here.there (ap (λ o. edge.app_ended x.core o) (unlisted_if_untold s c n x fits here.there untold))))
       (leads_same s k c n a x fits here apps.end_told keeps_told refl refl)
 
-  end_is : handing.gives_end k s ≡ step c (event.AppEnd n) told_state
+  pub end_is : handing.gives_end k s ≡ step c (event.AppEnd n) told_state
   end_is = ap (λ o. handing.gives_end_of o k s) here.at ∙ ap (λ h. handing.gives_end_to h k told_state) here.home
 
   pub end_leads : ClientLeads s (handing.ends_if_due k s)

@@ -135,7 +135,7 @@ still_of_client s t k kept of_client b at = by (alike_back AppKept (nth k s.apps
     by a = let h = of_client a.0 a.1 in (h.0, h.1, a.2.home ∙ h.2)
 
 -- a change of an app of a client of which nothing is shown
-unseen : (f : App → App) → ((a : App) → (f a).home ≡ a.home) → ((a : App) → (f a).dial ≡ a.dial) → ((a : App) → (f a).door ≡ a.door) → ((a : App) → (f a).stage ≡ a.stage)
+pub unseen : (f : App → App) → ((a : App) → (f a).home ≡ a.home) → ((a : App) → (f a).dial ≡ a.dial) → ((a : App) → (f a).door ≡ a.door) → ((a : App) → (f a).stage ≡ a.stage)
     → ((n : ℕ) (x : Client) (a : App) → client_app n (Some x) (f a) ≡ client_app n (Some x) a) → (s : State) (k : ℕ) → Fits s → OfClient k s → ClientLeads s (record s { apps = change f k s.apps })
 unseen f homes dials doors stages same s k fits of_client = by (nth k s.apps) refl
   where

@@ -1,5 +1,5 @@
 -- What keeps the facts on choices that is no step of the server: changes of agents and dials, and one more agent.
-use Rattle.std.proofs.Common.{◌≡◌, ◌++◌, ℕ, zero, suc, Bool, true, false, cond, List, [], ◌∷◌, length, map, Option, None, Some, refl, sym, ap, ◌∙◌, subst}
+use Rattle.std.proofs.Common.{◌≡◌, ◌++◌, ℕ, zero, suc, Bool, List, [], ◌∷◌, length, map, Option, None, Some, refl, sym, ap, ◌∙◌, subst}
 use Rattle.std.specs.Prelude.{slice_get, slice_set}
 use Rattle.kn_route.specs.Choice.{pick}
 use Rattle.kn_route.specs.LinkLists.{mark_of}
@@ -9,13 +9,13 @@ use Rattle.kn_server_core.specs.Choices.{link_of}
 use Rattle.kn_server_core.specs.Isolation.{Each}
 use Rattle.kn_server_core.specs.declared.choice.Choice.{Choice}
 use Rattle.kn_packets.specs.Outcome.{IsIn}
-use Rattle.kn_packets.proofs.AgentKept.{each_as, each_more}
+use Rattle.kn_packets.proofs.AgentKept.{each_as}
 use Rattle.kn_world.specs.declared.parts.Agent.{Agent}
 use Rattle.kn_world.specs.declared.parts.AppChoice.{AppChoice}
 use Rattle.kn_world.specs.declared.parts.Dial.{Dial}
 use Rattle.kn_world.specs.declared.state.State.{State}
-use Rattle.kn_world.specs.Numbers.{change, changed, nth}
-use Rattle.kn_refinement.specs.Chosen.{ChoicesHold, Chosen, HasChoice, Identifiers, IsAnswer, IsDialled, IsOfAgent, IsPicked, MadeFor, NamesAgent, identifiers_at, link_at, links_at, made_for}
+use Rattle.kn_world.specs.Numbers.{change, changed}
+use Rattle.kn_refinement.specs.Chosen.{ChoicesHold, Chosen, HasChoice, Identifiers, IsDialled, IsOfAgent, IsPicked, MadeFor, NamesAgent, identifiers_at, link_at, links_at, made_for}
 use Rattle.kn_refinement.proofs.NumberLemmas.{change_length}
 use Rattle.kn_refinement.proofs.Pairs.{was_still}
 

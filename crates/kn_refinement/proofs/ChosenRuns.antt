@@ -1,5 +1,5 @@
 -- Every event keeps the facts on choices: whatever it does, the server takes it by steps alone.
-use Rattle.std.proofs.Common.{◌≡◌, ◌++◌, ℕ, ℤ, zero, suc, Bool, true, false, cond, List, [], ◌∷◌, length, map, drop, min, take, ◌+◌, Option, None, Some, Result, Ok, Err, refl, sym, ap, ◌∙◌, subst, append-nil, codes}
+use Rattle.std.proofs.Common.{◌≡◌, ◌++◌, ℕ, ℤ, zero, suc, Bool, true, false, cond, List, [], ◌∷◌, length, drop, min, take, ◌+◌, Option, None, Some, Result, Ok, Err, refl, sym, ap, ◌∙◌, subst, append-nil, codes}
 use Rattle.kn_packet.specs.declared.packet.Packet.{Packet}
 use Rattle.kn_packet.specs.declared.packet.Packet.TheVariants.{CloseReq, CloseRsp, Data, DialCls, DialReq, DialRsp, Drain, Other}
 use Rattle.kn_connect.specs.declared.answer.ConnectAnswer.{ConnectAnswer}
@@ -18,7 +18,6 @@ use Rattle.kn_edge_core.specs.declared.client_event.ClientEvent.{ClientEvent}
 use Rattle.kn_edge_core.specs.declared.client_event.ClientEvent.TheVariants as client_event
 use Rattle.kn_edge_core.specs.declared.client_event.ClientOut.{ClientOut}
 use Rattle.kn_edge_core.specs.declared.client_event.ClientOut.TheVariants as client_out
-use Rattle.kn_server_core.specs.Isolation.{Each}
 use Rattle.kn_server_core.specs.declared.event.ServerEvent.TheVariants.{FrontLost, FrontPacket, FrontUp, LinkLost, LinkPacket, LinkUp}
 use Rattle.kn_server_core.proofs.ReachedLemmas.{orderly_kept, orderly_start}
 use Rattle.kn_packets.proofs.AgentKept.{each_as, each_more}

@@ -1,5 +1,6 @@
 -- A step of the server keeps the facts on choices: it notes the choice that it comes to, and makes the dial that this asks for.
-use Rattle.std.proofs.Common.{◌≡◌, ◌==◌, ◌++◌, ◌⊎◌, inl, inr, ℕ, ℤ, zero, suc, pos, Bool, true, false, cond, nat_lt, List, [], ◌∷◌, length, map, filter, Option, None, Some, Result, Ok, Err, is_some, refl, sym, ap, ◌∙◌, subst, eqb-true, codes}
+use Rattle.std.proofs.Common.{◌≡◌, ◌==◌, ◌++◌, ◌⊎◌, inl, inr, ℕ, ℤ, suc, pos, Bool, true, false, cond, nat_lt, List, [], ◌∷◌, length, map, filter, Option, None, Some, Result, Ok, Err, is_some, refl, sym, ap, ◌∙◌, subst, eqb-true, codes}
+use Rattle.std.specs.Prelude.{bytes_eq}
 use Rattle.kn_packet.specs.declared.packet.Packet.{Packet}
 use Rattle.kn_packet.specs.declared.packet.Packet.TheVariants.{CloseReq, CloseRsp, Data, DialCls, DialReq, DialRsp, Drain, Other}
 use Rattle.kn_route.specs.Choice.{pick}
@@ -39,11 +40,10 @@ use Rattle.kn_world.specs.declared.parts.Owner.{Owner}
 use Rattle.kn_world.specs.declared.parts.Owner.TheVariants as owner
 use Rattle.kn_world.specs.declared.state.State.{State}
 use Rattle.kn_world.specs.Agents as agent
-use Rattle.kn_world.specs.Doors.{is_text}
 use Rattle.kn_world.specs.Numbers.{nth}
 use Rattle.kn_world.specs.ServerSteps.{choices_with, gives, gives_all, made, step, stepped, to_owner}
 use Rattle.kn_world.specs.States.{new_dial}
-use Rattle.kn_refinement.specs.Chosen.{ChoicesHold, Chosen, HasChoice, Identifiers, IsDialled, IsOfAgent, IsPicked, MadeFor, last_number, links_at, made_for}
+use Rattle.kn_refinement.specs.Chosen.{ChoicesHold, Chosen, HasChoice, Identifiers, IsDialled, IsOfAgent, IsPicked, MadeFor, last_number, made_for}
 use Rattle.kn_refinement.proofs.ChosenParts.{agents_changed, has_choice_still, in_last, links_back, links_named, still_dialled}
 use Rattle.kn_refinement.proofs.FitsServer.{plus_one}
 use Rattle.kn_refinement.proofs.NumberLemmas.{length_more}
@@ -53,7 +53,7 @@ use Rattle.kn_refinement.proofs.ServerRules.{IsCalm, IsRuled, ruled}
 
 -- ---- what a request comes to, and the choice that it comes to
 abbrev pub says_no_agent : List ℕ → Bool
-says_no_agent text = is_text text (codes "no agent available")
+says_no_agent text = bytes_eq text (codes "no agent available")
 
 pub data Agrees (s : ServerState) (c : Option Choice) (r : Result ℕ (List ℕ)) : Type 0 where
   Sent : (link : ℕ) (host : List ℕ) → r ≡ Ok link → c ≡ Some (choice_of s host) → (choice_of s host).answer ≡ Some link → Agrees s c r

@@ -25,6 +25,7 @@ use Rattle.kn_world.specs.declared.state.State.{State}
 use Rattle.kn_world.specs.Apps as apps
 use Rattle.kn_world.specs.AppSteps as steps
 use Rattle.kn_world.specs.Clients as clients
+use Rattle.kn_world.specs.ClientSteps as client
 use Rattle.kn_world.specs.Handing.{settles}
 use Rattle.kn_world.specs.Numbers.{change, first_of, nth, number_of, or_none, rest_of}
 use Rattle.kn_world.specs.Pipes.{at_client, client_down}
@@ -341,6 +342,11 @@ module _ (go : KeysGoOn) (s : State) (c : ℕ) (fits : Fits s) (keys : Keys (sho
       clients = clients_then s rest_state taken_state (listless_kept s c x fits there clients.rest_down (λ y. refl) (λ y. refl) keeps_rest)
           (step_clients_kept rest_state c (event.Packet p) (clients.rest_down x) fits_rest there_rest rising_rest tt);
     }
+
+    -- the packet, and the note that an app is open
+    pub one_leads : ClientLeads s ((λ (v : State). record v { apps = change (apps.opened_if (steps.state_of (steps.answered_by p c rest_state.clients) v)) (steps.answered_by p c rest_state.clients) v.apps }) (client.step c (event.Packet p) rest_state))
+    one_leads = subst (λ t. ClientLeads s ((λ (v : State). record v { apps = change (apps.opened_if (steps.state_of (steps.answered_by p c rest_state.clients) v)) (steps.answered_by p c rest_state.clients) v.apps }) t))
+        (sym (stepped_state rest_state c (event.Packet p) (clients.rest_down x) fits_rest there_rest rising_rest tt)) taken_leads
 
     abbrev answering : ℕ
     answering = steps.answered_by p c rest_state.clients

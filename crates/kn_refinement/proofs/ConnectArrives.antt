@@ -10,7 +10,7 @@ use Rattle.kn_world.specs.declared.state.State.{State}
 use Rattle.kn_world.specs.Arrivals.{with_connect}
 use Rattle.kn_world.specs.Numbers.{nth}
 use Rattle.kn_world.specs.States.{new_app}
-use Rattle.kn_refinement.specs.Fits.{ClientFits, Fits, FrontFits, HasLeft, IsDataOf, IsUnheard}
+use Rattle.kn_refinement.specs.Fits.{ClientFits, Fits, FrontFits, IsDataOf, IsPast, IsUnheard}
 use Rattle.kn_refinement.specs.Leads.{Leads}
 use Rattle.kn_refinement.specs.Shown.{app_of, connect_stream, shown, stream_of}
 use Rattle.kn_refinement.proofs.ConnectHeads.{next_empty}
@@ -73,7 +73,7 @@ module _ (s : State) (fits : Fits s) where
     early = λ j b h. is_either (λ (x : App). x.home ≡ home.Connect → Each (IsDataOf x.dial) x.door.early) j b h (λ e. tt) (λ q. fits.fronts.early j b q);
     refused = λ j b h. is_either (λ (x : App). x.home ≡ home.Connect → x.stage ≡ stage.Refused → x.door.closing ≡ false) j b h (λ e g. refl) (λ q. fits.fronts.refused j b q);
     present = λ j n b h. is_either (λ (x : App). x.home ≡ home.Connect → x.door.number ≡ suc n → x.side.end_given ≡ false → x.door.at_server ≡ true) j b h (λ e g i. absurd (no_number n g)) (λ q. fits.fronts.present j n b q);
-    gone = λ j n b h. is_either (λ (x : App). x.home ≡ home.Connect → x.door.number ≡ suc n → x.door.at_server ≡ false → HasLeft x.stage × (x.door.early ≡ [])) j b h (λ e g i. absurd (no_number n g)) (λ q. fits.fronts.gone j n b q);
+    gone = λ j n b h. is_either (λ (x : App). x.home ≡ home.Connect → x.door.number ≡ suc n → x.door.at_server ≡ false → IsPast x × (x.door.early ≡ [])) j b h (λ e g i. absurd (no_number n g)) (λ q. fits.fronts.gone j n b q);
     known = fits.fronts.known;
   }
 

@@ -7,6 +7,8 @@ use Rattle.kn_connect.specs.declared.answer.ConnectError.{ConnectError}
 use Rattle.kn_connect.specs.declared.answer.ConnectError.TheVariants.{Fault, NoMemory}
 use Rattle.kn_packets.specs.Keys.{Keys}
 use Rattle.kn_packets.proofs.Taken.{and_first}
+use Rattle.kn_connect.specs.Replies.{status_and_reason}
+use Rattle.kn_connect.specs.Statuses.{fault_status, reply_length}
 use Rattle.kn_world.specs.declared.parts.App.{App}
 use Rattle.kn_world.specs.declared.parts.Home.{Home}
 use Rattle.kn_world.specs.declared.parts.Home.TheVariants as home
@@ -15,7 +17,6 @@ use Rattle.kn_world.specs.declared.parts.Stage.TheVariants as stage
 use Rattle.kn_world.specs.declared.state.State.{State}
 use Rattle.kn_world.specs.Apps as apps
 use Rattle.kn_world.specs.Arrivals.{RawAppComes, with_connect}
-use Rattle.kn_world.specs.Doors as door
 use Rattle.kn_world.specs.Effects.{is_app_unheard, is_unheard, is_unheard_of}
 use Rattle.kn_world.specs.Flows.{Passing, no_bytes, passed_on}
 use Rattle.kn_world.specs.Hearing.{Feeds, Hears, holds, responds, with_front}
@@ -37,7 +38,7 @@ use Rattle.kn_refinement.proofs.NumberLemmas.{length_more}
 
 -- ---- a head that is at fault: the app is refused
 abbrev faulted : ℕ → App → App
-faulted status a = record a { error = door.refusal_text status; stage = stage.Refused; door = record a.door { early = []; reply = door.reply_len status } }
+faulted status a = record a { error = status_and_reason status; stage = stage.Refused; door = record a.door { early = []; reply = reply_length status } }
 
 record IsFaulted (a b : App) : Type 0 where
   pub at_door : b.home ≡ home.Connect
@@ -91,7 +92,7 @@ module _ (s : State) (k : ℕ) (a : App) (fits : Fits s) (there : nth k s.apps �
   is_faulted : (status : ℕ) → IsFaulted a (apps.refused status a)
   is_faulted status = subst (λ b. IsFaulted a b) (sym (taken_plainly a.side.held (faulted status a) old.closing)) (plainly_faulted a.side.held status)
 
-  fault_leads : (status : ℕ) → Leads s (record s { apps = change (apps.refused status) k s.apps })
+  pub fault_leads : (status : ℕ) → Leads s (record s { apps = change (apps.refused status) k s.apps })
   fault_leads status =
       let at : IsFaulted a (apps.refused status a) = is_faulted status in
       leads_none s (record s { apps = change (apps.refused status) k s.apps }) (fits_changed s k a (apps.refused status) fits there at_door at.same)
@@ -103,7 +104,7 @@ module _ (go : KeysGoOn) where
       → (answer : Result ConnectAnswer ConnectError) (rest : List ℕ) → Leads s (responds answer rest k s)
   responds_lead s k a fits keys there at_door number dialling (Ok More) rest = settles_leads go plain_serves s k a fits keys there at_door
   responds_lead s k a fits keys there at_door number dialling (Ok (Head target early)) rest = head_came_leads go s k a fits keys there at_door number dialling target early rest
-  responds_lead s k a fits keys there at_door number dialling (Err (Fault fault)) rest = fault_leads s k a fits there at_door number (door.fault_status fault)
+  responds_lead s k a fits keys there at_door number dialling (Err (Fault fault)) rest = fault_leads s k a fits there at_door number (fault_status fault)
   responds_lead s k a fits keys there at_door number dialling (Err NoMemory) rest = leads_none s s fits refl
 
   pub first_leads : (s new : State) (k : ℕ) (a : App) (bytes : List ℕ) → Fits s → Keys (shown s) → nth k s.apps ≡ Some a → a.home ≡ home.Connect → a.door.number ≡ 0 → a.stage ≡ stage.Dialling

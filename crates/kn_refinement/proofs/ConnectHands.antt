@@ -21,7 +21,7 @@ use Rattle.kn_world.specs.Doors as door
 use Rattle.kn_world.specs.Handing.{hands_piece, hands_piece_of, hands_to}
 use Rattle.kn_world.specs.Numbers.{change, nth}
 use Rattle.kn_world.specs.Times.{times}
-use Rattle.kn_refinement.specs.Fits.{Fits, HasLeft, IsDataOf}
+use Rattle.kn_refinement.specs.Fits.{Fits, HasLeft, IsDataOf, IsPast}
 use Rattle.kn_refinement.specs.Leads.{Leads}
 use Rattle.kn_refinement.specs.Shown.{connect_app, connect_phase, connect_stream, front_if, shown, unnumbered}
 use Rattle.kn_refinement.proofs.Changes.{change_twice, changed_own}
@@ -45,13 +45,17 @@ not_left a h (inr r) = here h.here
     here (inl e) = let z : stage.Dialling ≡ stage.Ended = sym e ∙ r in absurd cc
     here (inr e) = let z : stage.Open ≡ stage.Ended = sym e ∙ r in absurd cc
 
+not_past : (a : App) → Hands a → IsPast a → ⊥
+not_past a h (inl left) = not_left a h left
+not_past a h (inr ends) = cc (h.open_yet, ends)
+
 -- the server has its front
 pub has_front : (s : State) (k n : ℕ) (a : App) → Fits s → Own s k n a → Hands a → a.door.at_server ≡ true
 has_front s k n a fits own h = here a.door.at_server refl
   where
     here : (b : Bool) → a.door.at_server ≡ b → b ≡ true
     here true e = refl
-    here false e = absurd (not_left a h (fits.fronts.gone k n a own.there own.at_door own.number e).0)
+    here false e = absurd (not_past a h (fits.fronts.gone k n a own.there own.at_door own.number e).0)
 
 -- ---- the phase of an app by CONNECT is what is noted
 pub phase_own : (w : World) (k n : ℕ) (a : App) → w.apps k ≡ connect_app a → a.door.number ≡ suc n → (w.streams (suc n)).connect ≡ true → phase_in w (w.apps k) ≡ connect_phase a.door.closing a.stage
@@ -113,7 +117,7 @@ handed_same s k n a bytes fits own h = record {
   unheard = λ z. let y : suc n ≡ 0 = sym own.number ∙ z in absurd cc;
   refused = λ r. fits.fronts.refused k a own.there own.at_door r;
   present = λ m e g. fits.fronts.present k m a own.there own.at_door e g;
-  gone = λ m e g. absurd (not_left a h (fits.fronts.gone k m a own.there own.at_door e g).0);
+  gone = λ m e g. absurd (not_past a h (fits.fronts.gone k m a own.there own.at_door e g).0);
 }
 
 module _ (s : State) (k n : ℕ) (a : App) (fits : Fits s) (own : Own s k n a) (h : Hands a) where

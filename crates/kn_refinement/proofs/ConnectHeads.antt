@@ -13,7 +13,7 @@ use Rattle.kn_world.specs.declared.parts.Owner.TheVariants as owner
 use Rattle.kn_world.specs.declared.parts.Stage.TheVariants as stage
 use Rattle.kn_world.specs.declared.state.State.{State}
 use Rattle.kn_world.specs.Numbers.{change, nth}
-use Rattle.kn_refinement.specs.Fits.{Fits, FrontFits, HasLeft, IsDataOf, IsUnheard}
+use Rattle.kn_refinement.specs.Fits.{Fits, FrontFits, IsDataOf, IsPast, IsUnheard}
 use Rattle.kn_refinement.specs.Shown.{app_at_home, app_of, connect_app, connect_stream, shown, stream_of}
 use Rattle.kn_refinement.proofs.Changes.{changed_other, changed_own}
 use Rattle.kn_refinement.proofs.ConnectParts.{asked_kept, clients_kept, connect_shown, is_either, still}
@@ -94,7 +94,7 @@ module _ (s : State) (k : ℕ) (a : App) (g : App → App) (fits : Fits s) (ther
         (λ i e q. let z : stage.Dialling ≡ stage.Refused = sym head.stage ∙ q in absurd cc) (λ q. fits.fronts.refused j b q);
     present = λ j n b h. is_either s k a g fits there at_door head.at_door dial_same (λ (x : App). x.home ≡ home.Connect → x.door.number ≡ suc n → x.side.end_given ≡ false → x.door.at_server ≡ true) j b h
         (λ i e q r. head.at_server) (λ q. fits.fronts.present j n b q);
-    gone = λ j n b h. is_either s k a g fits there at_door head.at_door dial_same (λ (x : App). x.home ≡ home.Connect → x.door.number ≡ suc n → x.door.at_server ≡ false → HasLeft x.stage × (x.door.early ≡ [])) j b h
+    gone = λ j n b h. is_either s k a g fits there at_door head.at_door dial_same (λ (x : App). x.home ≡ home.Connect → x.door.number ≡ suc n → x.door.at_server ≡ false → IsPast x × (x.door.early ≡ [])) j b h
         (λ i e q r. absurd (cc (head.at_server, r))) (λ q. fits.fronts.gone j n b q);
     known = λ i h. let found = fits.fronts.known i h in (found.0, was_still s.fronts (owner.App k) i found.0 found.1);
   }

@@ -1,5 +1,5 @@
 -- The first bytes of an app by CONNECT, until its head is whole or refused.
-use Rattle.std.proofs.Common.{◌≡◌, ◌&&◌, ◌||◌, ◌++◌, inl, inr, ℕ, pos, suc, true, false, not, List, [], ◌∷◌, length, map, Some, refl, sym, ap, ◌∙◌, subst}
+use Rattle.std.proofs.Common.{◌≡◌, ◌&&◌, ◌||◌, ◌++◌, ℕ, pos, suc, true, false, not, List, [], ◌∷◌, length, map, Some, refl, sym, ap, ◌∙◌, subst}
 use Rattle.kn_server_core.specs.Isolation.{Each, IsOrderly}
 use Rattle.kn_server_core.specs.Server.{front_added}
 use Rattle.kn_server_core.specs.declared.event.ServerEvent.TheVariants.{FrontPacket, FrontUp}
@@ -25,19 +25,20 @@ use Rattle.kn_world.specs.Numbers.{change, nth}
 use Rattle.kn_world.specs.ServerSteps.{step}
 use Rattle.kn_world.specs.Idle.{is_at_door}
 use Rattle.kn_refinement.specs.Asking.{AskedAt}
-use Rattle.kn_refinement.specs.Fits.{Fits, HasLeft, IsDataOf, IsUnheard}
+use Rattle.kn_refinement.specs.Fits.{Fits, IsDataOf, IsUnheard}
 use Rattle.kn_refinement.specs.Leads.{Leads}
 use Rattle.kn_refinement.specs.Shown.{connect_app, connect_phase, connect_side, connect_stream, is_refused, number_if, shown, unnumbered}
 use Rattle.kn_refinement.proofs.Changes.{change_twice, changed_own}
 use Rattle.kn_refinement.proofs.ConnectHeads.{IsHeaded, fits_headed, head_shown, hidden, unbegun}
-use Rattle.kn_refinement.proofs.ConnectKept.{Has, Tied, step_tied}
+use Rattle.kn_refinement.proofs.ConnectKept.{Has, Tied, step_has, step_tied}
 use Rattle.kn_refinement.proofs.ConnectParts.{Same, fits_changed}
 use Rattle.kn_refinement.proofs.ConnectRequests.{kept_as_one}
 use Rattle.kn_refinement.proofs.ConnectServed.{plain_serves}
 use Rattle.kn_refinement.proofs.ConnectSettles.{settles_tied}
 use Rattle.kn_refinement.proofs.ConnectWorlds.{Reached, early_up, head_app, head_reached, head_side, head_stream, headed, may_take, takes_is}
 use Rattle.kn_refinement.proofs.FitsServer.{step_fits}
-use Rattle.kn_refinement.proofs.Pairs.{came_last}
+use Rattle.kn_refinement.proofs.FitsHeard.{heard_kept}
+use Rattle.kn_refinement.proofs.Pairs.{came_last, some_is}
 use Rattle.kn_refinement.proofs.ServerReached.{links_known, server_reached}
 use Rattle.kn_refinement.proofs.SettledRuns.{Reaches}
 use Rattle.kn_refinement.proofs.Worlds.{KeysGoOn, apps_same, leads_then, makes_join, sides_same, streams_same}
@@ -198,6 +199,12 @@ module _ (go : KeysGoOn) (s : State) (k : ℕ) (a : App) (fits : Fits s) (keys :
       by stage.Refused bytes = refl
       by stage.Ended bytes = refl
 
+  -- the server has its front
+  still_at_server : (b : App) → nth k asked.apps ≡ Some b → b.door.at_server ≡ true
+  still_at_server b h =
+      let own : Has (λ (x : App). x.door.at_server ≡ true) k asked.apps = step_has (λ (x : App). x.door.at_server ≡ true) (λ p x t. (heard_kept p x).at_server ∙ t) (λ dial x t. t) k (FrontPacket f (request target)) k asking (plain a, changed_own plain k s.apps a there, refl) in
+      ap (λ (x : App). x.door.at_server) (some_is (sym h ∙ own.1)) ∙ own.2
+
   same_bytes : (b : App) → nth k asked.apps ≡ Some b → b.home ≡ home.Connect → b.door.number ≡ f → (g : Stage) → b.stage ≡ g → (bytes : List ℕ) → Same b (door.early_kept g bytes b)
   same_bytes b h e n g i bytes = by g i bytes
     where
@@ -213,8 +220,8 @@ module _ (go : KeysGoOn) (s : State) (k : ℕ) (a : App) (fits : Fits s) (keys :
         gone = λ m j q. asked_fits.fronts.gone k m b h e j q;
       }
 
-      more : (x : ℕ) (xs : List ℕ) → (HasLeft b.stage → ⊥) → Same b (door.kept (x ∷ xs) b)
-      more x xs not_left = record {
+      more : (x : ℕ) (xs : List ℕ) → Same b (door.kept (x ∷ xs) b)
+      more x xs = record {
         at_door = e;
         number = refl;
         dial = refl;
@@ -222,22 +229,14 @@ module _ (go : KeysGoOn) (s : State) (k : ℕ) (a : App) (fits : Fits s) (keys :
         unheard = λ z. let y : suc (length s.fronts) ≡ 0 = sym n ∙ z in absurd cc;
         refused = asked_fits.fronts.refused k b h e;
         present = λ m j q. asked_fits.fronts.present k m b h e j q;
-        gone = λ m j q. absurd (not_left (asked_fits.fronts.gone k m b h e j q).0);
+        gone = λ m j q. absurd (cc (still_at_server b h, q));
       }
-
-      dials : b.stage ≡ stage.Dialling → HasLeft b.stage → ⊥
-      dials i (inl r) = let z : stage.Dialling ≡ stage.Refused = sym i ∙ r in absurd cc
-      dials i (inr r) = let z : stage.Dialling ≡ stage.Ended = sym i ∙ r in absurd cc
-
-      opens : b.stage ≡ stage.Open → HasLeft b.stage → ⊥
-      opens i (inl r) = let z : stage.Open ≡ stage.Refused = sym i ∙ r in absurd cc
-      opens i (inr r) = let z : stage.Open ≡ stage.Ended = sym i ∙ r in absurd cc
 
       by : (g : Stage) → b.stage ≡ g → (bytes : List ℕ) → Same b (door.early_kept g bytes b)
       by stage.Dialling i [] = nothing
-      by stage.Dialling i (x ∷ xs) = more x xs (dials i)
+      by stage.Dialling i (x ∷ xs) = more x xs
       by stage.Open i [] = nothing
-      by stage.Open i (x ∷ xs) = more x xs (opens i)
+      by stage.Open i (x ∷ xs) = more x xs
       by stage.Refused i bytes = nothing
       by stage.Ended i bytes = nothing
 
@@ -257,7 +256,7 @@ module _ (go : KeysGoOn) (s : State) (k : ℕ) (a : App) (fits : Fits s) (keys :
     },
   )
 
-  kept_leads_on : Leads s kept
+  pub kept_leads_on : Leads s kept
   kept_leads_on = record {
     fits = kept_fits;
     moves = reaches_w.moves ++ reaches_kept.0;

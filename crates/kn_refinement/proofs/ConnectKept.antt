@@ -7,6 +7,8 @@ use Rattle.kn_server_core.specs.Server as core
 use Rattle.kn_server_core.specs.declared.event.ServerEvent.{ServerEvent}
 use Rattle.kn_server_core.specs.declared.event.ServerOut.{ServerOut}
 use Rattle.kn_server_core.specs.declared.event.ServerOut.TheVariants as out
+use Rattle.kn_connect.specs.Replies.{status_and_reason}
+use Rattle.kn_connect.specs.Statuses.{error_status, reply_length}
 use Rattle.kn_world.specs.declared.parts.App.{App}
 use Rattle.kn_world.specs.declared.parts.Home.TheVariants as home
 use Rattle.kn_world.specs.declared.parts.Owner.{Owner}
@@ -75,9 +77,9 @@ module _ (n : ℕ) where
   closed_tied a t = freely_tied a.side.held (record a { door = record a.door { closing = true } }) (record { at_door = t.at_door; number = t.number })
 
   answered_tied : (error : List ℕ) (a : App) → Tied n a → Tied n (door.answered error a)
-  answered_tied [] a t = freely_tied a.side.held (record a { stage = stage.Open; door = door.with_reply 39 a.door }) (record { at_door = t.at_door; number = t.number })
+  answered_tied [] a t = freely_tied a.side.held (record a { stage = stage.Open; door = door.with_reply (reply_length 200) a.door }) (record { at_door = t.at_door; number = t.number })
   answered_tied (x ∷ xs) a t =
-      freely_tied a.side.held (record a { error = door.refusal_text (door.error_status (x ∷ xs)); stage = stage.Refused; door = record a.door { early = []; reply = door.reply_len (door.error_status (x ∷ xs)) } })
+      freely_tied a.side.held (record a { error = status_and_reason (error_status (x ∷ xs)); stage = stage.Refused; door = record a.door { early = []; reply = reply_length (error_status (x ∷ xs)) } })
       (record { at_door = t.at_door; number = t.number })
 
   heard_tied : (p : Packet) (a : App) → Tied n a → Tied n (door.heard p a)
@@ -127,7 +129,7 @@ freely_answered true a t = emptied_answered a t
 freely_answered false a t = emptied_answered (record a { door = door.with_reply 0 a.door; side = side.took (length a.side.coming.waiting) a.side }) t
 
 heard_answered : (p : Packet) (a : App) → a.stage ≡ stage.Open → door.finishes p ≡ false → Answered (door.heard p a)
-heard_answered (DialRsp [] connect_id random) a t f = freely_answered a.side.held (record a { stage = stage.Open; door = door.with_reply 39 a.door }) (inl refl)
+heard_answered (DialRsp [] connect_id random) a t f = freely_answered a.side.held (record a { stage = stage.Open; door = door.with_reply (reply_length 200) a.door }) (inl refl)
 heard_answered (DialRsp (x ∷ xs) connect_id random) a t f = absurd (cc f)
 heard_answered (Data connect_id error bytes) a t f = freely_answered a.side.held (record a { side = side.written bytes a.side }) (inl t)
 heard_answered (CloseRsp error connect_id) a t f = absurd (cc f)

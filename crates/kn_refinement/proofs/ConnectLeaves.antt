@@ -21,7 +21,7 @@ use Rattle.kn_world.specs.Apps as apps
 use Rattle.kn_world.specs.Numbers.{change, nth}
 use Rattle.kn_world.specs.ServerSteps.{step}
 use Rattle.kn_world.specs.Idle.{is_at_door}
-use Rattle.kn_refinement.specs.Fits.{Fits, HasLeft}
+use Rattle.kn_refinement.specs.Fits.{Fits, HasLeft, IsPast}
 use Rattle.kn_refinement.specs.Leads.{Leads}
 use Rattle.kn_refinement.specs.Shown.{app_at_home, app_of, client_app, connect_app, connect_phase, connect_stream, front_if, is_refused, is_told, shown, unnumbered}
 use Rattle.kn_refinement.proofs.Changes.{changed_own}
@@ -187,7 +187,7 @@ module _ (s : State) (k n : ℕ) (a : App) (fits : Fits s) (own : Own s k n a) (
   left_own = record { there = changed_own leaving k s.apps a own.there; at_door = own.at_door; number = own.number }
 
 -- ---- the server loses its front
-module _ (serve : ServerLeads) (s : State) (k n : ℕ) (a : App) (fits : Fits s) (keys : Keys (shown s)) (own : Own s k n a) (at_server : a.door.at_server ≡ true) (left : HasLeft a.stage) (none : a.door.early ≡ []) (given : a.side.end_given ≡ true) where
+module _ (serve : ServerLeads) (s : State) (k n : ℕ) (a : App) (fits : Fits s) (keys : Keys (shown s)) (own : Own s k n a) (at_server : a.door.at_server ≡ true) (left : IsPast a) (none : a.door.early ≡ []) (given : a.side.end_given ≡ true) where
   abbrev lost_state : State
   lost_state = record s { apps = change lost k s.apps }
 

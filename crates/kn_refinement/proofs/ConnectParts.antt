@@ -18,7 +18,7 @@ use Rattle.kn_world.specs.declared.parts.Stage.TheVariants as stage
 use Rattle.kn_world.specs.declared.state.State.{State}
 use Rattle.kn_world.specs.Numbers.{change, nth}
 use Rattle.kn_world.specs.ServerSteps.{step}
-use Rattle.kn_refinement.specs.Fits.{AskedFits, ClientFits, Fits, FrontFits, HasLeft, IsDataOf, IsUnheard}
+use Rattle.kn_refinement.specs.Fits.{AskedFits, ClientFits, Fits, FrontFits, IsDataOf, IsPast, IsUnheard}
 use Rattle.kn_refinement.specs.Leads.{Leads}
 use Rattle.kn_refinement.specs.Shown.{app_at_home, app_of, connect_app, connect_stream, shown, stream_of}
 use Rattle.kn_refinement.proofs.Changes.{WasBefore, changed_other, changed_own, was_before}
@@ -119,7 +119,7 @@ pub record Same (a b : App) : Type 0 where
   pub unheard : a.door.number ≡ 0 → IsUnheard b
   pub refused : b.stage ≡ stage.Refused → b.door.closing ≡ false
   pub present : (n : ℕ) → b.door.number ≡ suc n → b.side.end_given ≡ false → b.door.at_server ≡ true
-  pub gone : (n : ℕ) → b.door.number ≡ suc n → b.door.at_server ≡ false → HasLeft b.stage × (b.door.early ≡ [])
+  pub gone : (n : ℕ) → b.door.number ≡ suc n → b.door.at_server ≡ false → IsPast b × (b.door.early ≡ [])
 
 module _ (s : State) (k : ℕ) (a : App) (f : App → App) (fits : Fits s) (there : nth k s.apps ≡ Some a) (at_door : a.home ≡ home.Connect) (new_at_door : (f a).home ≡ home.Connect) (new_dial : (f a).dial ≡ a.dial) where
   not_at_client : (c n : ℕ) → a.home ≡ home.Client c n → ⊥
@@ -188,7 +188,7 @@ module _ (s : State) (k : ℕ) (a : App) (f : App → App) (fits : Fits s) (ther
         (λ i e. subst (λ d. Each (IsDataOf d) (f a).door.early) (sym same.dial) same.early) (λ q. fits.fronts.early j b q);
     refused = λ j b h. is_either s k a f fits there at_door same.at_door same.dial (λ (x : App). x.home ≡ home.Connect → x.stage ≡ stage.Refused → x.door.closing ≡ false) j b h (λ i e. same.refused) (λ q. fits.fronts.refused j b q);
     present = λ j n b h. is_either s k a f fits there at_door same.at_door same.dial (λ (x : App). x.home ≡ home.Connect → x.door.number ≡ suc n → x.side.end_given ≡ false → x.door.at_server ≡ true) j b h (λ i e. same.present n) (λ q. fits.fronts.present j n b q);
-    gone = λ j n b h. is_either s k a f fits there at_door same.at_door same.dial (λ (x : App). x.home ≡ home.Connect → x.door.number ≡ suc n → x.door.at_server ≡ false → HasLeft x.stage × (x.door.early ≡ [])) j b h (λ i e. same.gone n) (λ q. fits.fronts.gone j n b q);
+    gone = λ j n b h. is_either s k a f fits there at_door same.at_door same.dial (λ (x : App). x.home ≡ home.Connect → x.door.number ≡ suc n → x.door.at_server ≡ false → IsPast x × (x.door.early ≡ [])) j b h (λ i e. same.gone n) (λ q. fits.fronts.gone j n b q);
     known = fits.fronts.known;
   }
 

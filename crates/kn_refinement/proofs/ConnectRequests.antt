@@ -9,6 +9,8 @@ use Rattle.kn_server_core.specs.Steps.{Step}
 use Rattle.kn_server_core.specs.FrontLists.{is_up}
 use Rattle.kn_server_core.specs.declared.event.ServerEvent.TheVariants.{FrontPacket}
 use Rattle.kn_server_core.specs.declared.state.State.{State as ServerState}
+use Rattle.kn_connect.specs.Replies.{status_and_reason}
+use Rattle.kn_connect.specs.Statuses.{error_status, reply_length}
 use Rattle.kn_world.specs.declared.parts.App.{App}
 use Rattle.kn_world.specs.declared.parts.AppChoice.{AppChoice}
 use Rattle.kn_world.specs.declared.parts.Home.TheVariants as home
@@ -53,10 +55,10 @@ taken_plainly true a e = ap (λ c. cond (c && door.is_empty a) (record a { stage
 taken_plainly false a e = ap (λ c. cond (c && door.is_empty (emptying a)) (record (emptying a) { stage = stage.Ended }) (emptying a)) e
 
 abbrev opening : App → App
-opening b = record b { stage = stage.Open; door = door.with_reply 39 b.door }
+opening b = record b { stage = stage.Open; door = door.with_reply (reply_length 200) b.door }
 
 abbrev refusing : List ℕ → App → App
-refusing text b = record b { error = door.refusal_text (door.error_status text); stage = stage.Refused; door = record b.door { early = []; reply = door.reply_len (door.error_status text) } }
+refusing text b = record b { error = status_and_reason (error_status text); stage = stage.Refused; door = record b.door { early = []; reply = reply_length (error_status text) } }
 
 open_keeps : (held : Bool) (early : List ℕ) (b : App) → apps.early_kept early (plainly held (opening b)) ≡ plainly held (opening (door.kept_some early b))
 unfolding plainly emptying

@@ -80,7 +80,7 @@ no_front s fits = here (is_up 0 s.server.fronts) refl
 nothing_lost : (s : State) → is_up 0 s.server.fronts ≡ false → step 0 (FrontLost 0) s ≡ s
 nothing_lost s e = ap (λ b. gives_all (cond b (core.front_lost s.server 0) (core.ignored s.server)).outs 0 (record s { server = (cond b (core.front_lost s.server 0) (core.ignored s.server)).state })) e
 
-unheard_ends : (s : State) (k : ℕ) (a : App) → Fits s → nth k s.apps ≡ Some a → a.home ≡ home.Connect → a.door.number ≡ 0 → Leads s (gives_end k s)
+pub unheard_ends : (s : State) (k : ℕ) (a : App) → Fits s → nth k s.apps ≡ Some a → a.home ≡ home.Connect → a.door.number ≡ 0 → Leads s (gives_end k s)
 unheard_ends s k a fits there at_door number =
     subst (λ t. Leads s t) (sym is) (leads_none s (record s { apps = change ended_door k s.apps }) (fits_changed s k a ended_door fits there at_door same) (unheard_shown s k a ended_door fits there at_door number at_door number))
   where
@@ -115,13 +115,13 @@ module _ (go : KeysGoOn) (serve : ServerLeads) where
       ∙ ap (λ m. step 0 (FrontLost m) (record s { apps = change apps.left_door k (change apps.end_told k s.apps) })) (ap apps.front_of (changed_own apps.end_told k s.apps a own.there) ∙ own.number)
       ∙ ap (λ xs. step 0 (FrontLost (suc n)) (record s { apps = xs })) (change_twice apps.left_door apps.end_told k s.apps ∙ sym (change_twice lost leaving k s.apps))
 
-  heard_ends : (s : State) (k n : ℕ) (a : App) → Fits s → Keys (shown s) → Own s k n a → a.side.end_given ≡ false → Leads s (gives_end k s)
+  pub heard_ends : (s : State) (k n : ℕ) (a : App) → Fits s → Keys (shown s) → Own s k n a → a.side.end_given ≡ false → Leads s (gives_end k s)
   heard_ends s k n a fits keys own given =
       let at_server : a.door.at_server ≡ true = fits.fronts.present k n a own.there own.at_door own.number given in
       let left : State = record s { apps = change leaving k s.apps } in
       subst (λ t. Leads s t) (sym (end_is s k n a own))
       (leads_then go s left (step 0 (FrontLost (suc n)) (record left { apps = change lost k left.apps })) keys (leaving_leads s k n a fits own at_server)
-      (λ fit key. lost_leads serve left k n (leaving a) fit key (left_own s k n a fits own at_server) at_server (left_has a.stage) refl refl))
+      (λ fit key. lost_leads serve left k n (leaving a) fit key (left_own s k n a fits own at_server) at_server (inl (left_has a.stage)) refl refl))
 
   not_given : (a : App) → is_due a.side ≡ true → a.side.end_given ≡ false
   not_given a h = here a.side.end_given refl

@@ -17,7 +17,7 @@ use Rattle.kn_world.specs.Doors as door
 use Rattle.kn_world.specs.Flows.{no_bytes, passed_on}
 use Rattle.kn_world.specs.Numbers.{change, nth}
 use Rattle.kn_world.specs.Sides as side
-use Rattle.kn_refinement.specs.Fits.{Fits, HasLeft, IsDataOf, IsUnheard}
+use Rattle.kn_refinement.specs.Fits.{Fits, HasLeft, IsDataOf, IsPast, IsUnheard}
 use Rattle.kn_refinement.specs.Leads.{Leads}
 use Rattle.kn_refinement.specs.Shown.{app_at_home, app_of, connect_app, connect_stream, shown, stream_of}
 use Rattle.kn_refinement.proofs.ConnectParts.{Same, at_each, fits_changed}
@@ -72,12 +72,13 @@ module _ (s : State) (k : ℕ) (a b : App) (fits : Fits s) (there : nth k s.apps
       here (inl e) = keeps.closing ∙ fits.fronts.refused k a there at_door (sym e ∙ r)
       here (inr (e, t)) = let z : stage.Ended ≡ stage.Refused = sym e ∙ r in absurd cc
 
-  gone_kept : (n : ℕ) → b.door.number ≡ suc n → b.door.at_server ≡ false → HasLeft b.stage × (b.door.early ≡ [])
+  gone_kept : (n : ℕ) → b.door.number ≡ suc n → b.door.at_server ≡ false → IsPast b × (b.door.early ≡ [])
   gone_kept n e f = let old = fits.fronts.gone k n a there at_door (sym keeps.number ∙ e) (sym keeps.at_server ∙ f) in (here old.0 keeps.stage, keeps.early ∙ old.1)
     where
-      here : HasLeft a.stage → (b.stage ≡ a.stage) ⊎ ((b.stage ≡ stage.Ended) × (a.door.closing ≡ true)) → HasLeft b.stage
-      here old (inl e) = subst (λ x. HasLeft x) (sym e) old
-      here old (inr (e, t)) = inr e
+      here : IsPast a → (b.stage ≡ a.stage) ⊎ ((b.stage ≡ stage.Ended) × (a.door.closing ≡ true)) → IsPast b
+      here (inr ends) was = inr (keeps.closing ∙ ends)
+      here (inl old) (inl e) = inl (subst (λ x. HasLeft x) (sym e) old)
+      here (inl old) (inr (e, t)) = inl (inr e)
 
   pub keeps_same : Same a b
   keeps_same = record {

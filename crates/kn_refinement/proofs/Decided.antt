@@ -1,5 +1,5 @@
 -- What the server gives out for a request is decided by the choice that it comes to.
-use Rattle.std.proofs.Common.{◌≡◌, ◌⊎◌, inl, inr, ℕ, ℤ, pos, Bool, true, false, cond, List, [], ◌∷◌, Option, Some, None, Result, Ok, Err, refl, sym, ap, ◌∙◌, subst, codes}
+use Rattle.std.proofs.Common.{◌≡◌, ◌⊎◌, inl, inr, ℕ, ℤ, pos, Bool, true, false, cond, List, [], Option, Some, None, Result, Ok, Err, refl, sym, ap, ◌∙◌, subst, codes}
 use Rattle.kn_packet.specs.declared.packet.Packet.TheVariants.{DialReq, DialRsp}
 use Rattle.kn_server_core.specs.Choices.{choice_asked, choice_of}
 use Rattle.kn_server_core.specs.FrontLists.{is_up}

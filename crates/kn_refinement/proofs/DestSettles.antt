@@ -171,7 +171,7 @@ settles_leads go dial s fits keys =
     (λ fit key. ends_if_due_leads dial (answering.hands_pieces (answering.count_wanted dial s) dial s) fit)
 
 -- ---- it sends
-sent_leads : (bytes : List ℕ) (dial : ℕ) (s : State) → Fits s → IsJoined s dial → Leads s (noted s dial (dials.sent bytes))
+pub sent_leads : (bytes : List ℕ) (dial : ℕ) (s : State) → Fits s → IsJoined s dial → Leads s (noted s dial (dials.sent bytes))
 sent_leads bytes dial s fits it =
     let p = it.joined.placed in
     let n = joined_number s dial it.its it.agent it.connection fits it.joined in
@@ -192,7 +192,7 @@ dest_ended_leads go dial s fits keys =
     (leads_none s (noted s dial dials.ended) (dial_fits s dial dials.ended fits (λ x. record { link = refl; ticket = refl }) (λ x h. record { link = refl; connect_id = refl; dry = fits.agents.dry dial x h }) (λ x. refl)) (sym (dial_hidden s dials.ended dial (λ x h. refl))))
     (λ fit key. settles_leads go dial (noted s dial dials.ended) fit key)
 
-holding_leads : (held : Bool) (dial : ℕ) (s : State) → Fits s → Leads s (noted s dial (dials.holding held))
+pub holding_leads : (held : Bool) (dial : ℕ) (s : State) → Fits s → Leads s (noted s dial (dials.holding held))
 holding_leads held dial s fits = leads_none s (noted s dial (dials.holding held))
     (dial_fits s dial (dials.holding held) fits (λ x. record { link = refl; ticket = refl }) (λ x h. record { link = refl; connect_id = refl; dry = fits.agents.dry dial x h }) (λ x. refl)) (sym (dial_hidden s (dials.holding held) dial (λ x h. refl)))
 

@@ -5,6 +5,8 @@ use Rattle.kn_packet.specs.declared.packet.Packet.TheVariants.{CloseReq, CloseRs
 use Rattle.kn_server_core.specs.declared.event.ServerOut.{ServerOut}
 use Rattle.kn_server_core.specs.declared.event.ServerOut.TheVariants as out
 use Rattle.kn_packets.specs.Outputs.{for_front, more_if}
+use Rattle.kn_connect.specs.Replies.{status_and_reason}
+use Rattle.kn_connect.specs.Statuses.{error_status, reply_length}
 use Rattle.kn_world.specs.declared.parts.App.{App}
 use Rattle.kn_world.specs.declared.parts.Home.{Home}
 use Rattle.kn_world.specs.declared.parts.Owner.{Owner}
@@ -43,8 +45,8 @@ freely_keeps true a = emptied_keeps a
 freely_keeps false a = emptied_keeps (emptied_takes a)
 
 answered_keeps : (error : List ℕ) (a : App) → fixed (door.answered error a) ≡ fixed a
-answered_keeps [] a = freely_keeps a.side.held (record a { stage = stage.Open; door = door.with_reply 39 a.door })
-answered_keeps (x ∷ xs) a = freely_keeps a.side.held (record a { error = door.refusal_text (door.error_status (x ∷ xs)); stage = stage.Refused; door = record a.door { early = []; reply = door.reply_len (door.error_status (x ∷ xs)) } })
+answered_keeps [] a = freely_keeps a.side.held (record a { stage = stage.Open; door = door.with_reply (reply_length 200) a.door })
+answered_keeps (x ∷ xs) a = freely_keeps a.side.held (record a { error = status_and_reason (error_status (x ∷ xs)); stage = stage.Refused; door = record a.door { early = []; reply = reply_length (error_status (x ∷ xs)) } })
 
 closed_keeps : (a : App) → fixed (door.closed a) ≡ fixed a
 closed_keeps a = freely_keeps a.side.held (record a { door = record a.door { closing = true } })
@@ -94,8 +96,8 @@ freely_dial true d a = emptied_dial d a
 freely_dial false d a = emptied_dial d (emptied_takes a)
 
 answered_dial : (error : List ℕ) (d : ℕ) (a : App) → door.answered error (apps.with_dial d a) ≡ apps.with_dial d (door.answered error a)
-answered_dial [] d a = freely_dial a.side.held d (record a { stage = stage.Open; door = door.with_reply 39 a.door })
-answered_dial (x ∷ xs) d a = freely_dial a.side.held d (record a { error = door.refusal_text (door.error_status (x ∷ xs)); stage = stage.Refused; door = record a.door { early = []; reply = door.reply_len (door.error_status (x ∷ xs)) } })
+answered_dial [] d a = freely_dial a.side.held d (record a { stage = stage.Open; door = door.with_reply (reply_length 200) a.door })
+answered_dial (x ∷ xs) d a = freely_dial a.side.held d (record a { error = status_and_reason (error_status (x ∷ xs)); stage = stage.Refused; door = record a.door { early = []; reply = reply_length (error_status (x ∷ xs)) } })
 
 closed_dial : (d : ℕ) (a : App) → door.closed (apps.with_dial d a) ≡ apps.with_dial d (door.closed a)
 closed_dial d a = freely_dial a.side.held d (record a { door = record a.door { closing = true } })

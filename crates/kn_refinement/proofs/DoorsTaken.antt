@@ -5,6 +5,8 @@ use Rattle.kn_packet.specs.declared.packet.Packet.TheVariants.{CloseReq, CloseRs
 use Rattle.kn_tunnel.specs.Kinds.{left_phase}
 use Rattle.kn_tunnel.specs.Tunnel.{Dialling, Ended, Opened, Phase, Refused, Side}
 use Rattle.kn_packets.specs.Outputs.{all_answered, answered, finishes}
+use Rattle.kn_connect.specs.Replies.{status_and_reason}
+use Rattle.kn_connect.specs.Statuses.{error_status, reply_length}
 use Rattle.kn_world.specs.declared.parts.App.{App}
 use Rattle.kn_world.specs.declared.parts.Stage.{Stage}
 use Rattle.kn_world.specs.declared.parts.Stage.TheVariants as stage
@@ -179,9 +181,9 @@ bytes_dialling connect_id error bytes a e c = bytes_heard connect_id error bytes
 opened_heard : (connect_id random : ℤ) (a : App) → a.door.closing ≡ false → Heard (DialRsp [] connect_id random) a (door.opened a) stage.Open Opened
 unfolding here_view more
 opened_heard connect_id random a c = record {
-  stage = freely_stage a.side.held (record a { stage = stage.Open; door = door.with_reply 39 a.door }) c;
-  closing = freely_closing a.side.held (record a { stage = stage.Open; door = door.with_reply 39 a.door }) ∙ c;
-  seen = freely_view a.side.held (record a { stage = stage.Open; door = door.with_reply 39 a.door }) (λ x. c)
+  stage = freely_stage a.side.held (record a { stage = stage.Open; door = door.with_reply (reply_length 200) a.door }) c;
+  closing = freely_closing a.side.held (record a { stage = stage.Open; door = door.with_reply (reply_length 200) a.door }) ∙ c;
+  seen = freely_view a.side.held (record a { stage = stage.Open; door = door.with_reply (reply_length 200) a.door }) (λ x. c)
       ∙ rw (c, appended_nil (a.side.coming.passed ++ a.side.coming.waiting)) refl;
 }
 
@@ -230,13 +232,13 @@ dialling_closes error i ps a n e c = closed_view (CloseRsp error i) ps a Diallin
 
 -- a refusal: what it sent before is dropped
 refused_app : ℕ → App → App
-refused_app status a = record a { error = door.refusal_text status; stage = stage.Refused; door = record a.door { early = []; reply = door.reply_len status } }
+refused_app status a = record a { error = status_and_reason status; stage = stage.Refused; door = record a.door { early = []; reply = reply_length status } }
 
 dialling_refused : (x : ℕ) (xs : List ℕ) (i r : ℤ) (ps : List Packet) (a : App) → a.stage ≡ stage.Dialling → a.door.closing ≡ false
     → view (heard_all (DialRsp (x ∷ xs) i r ∷ ps) a) ≡ taken (DialRsp (x ∷ xs) i r ∷ ps) (view a)
 unfolding left_view refused_app
 dialling_refused x xs i r ps a e c =
-    let status : ℕ = door.error_status (x ∷ xs) in
+    let status : ℕ = error_status (x ∷ xs) in
     let hears : door.heard_at a.stage (DialRsp (x ∷ xs) i r) a ≡ door.took_freely a.side.held (refused_app status a) = rw (e, c) refl in
     let seen : view (refused_app status a) ≡ left_view Refused [] (connect_side a.side) = rw c refl in
     ap (λ b. view (heard_all ps b)) hears

@@ -15,7 +15,7 @@ use Rattle.kn_world.specs.declared.parts.Stage.TheVariants as stage
 use Rattle.kn_world.specs.Clients as clients
 use Rattle.kn_world.specs.Numbers.{change, nth, rest_of}
 use Rattle.kn_world.specs.States.{new_client}
-use Rattle.kn_refinement.specs.Fits.{ClientFits, FrontFits, HasLeft, IsDataOf, IsNotedAs, IsUnheard}
+use Rattle.kn_refinement.specs.Fits.{ClientFits, FrontFits, HasLeft, IsDataOf, IsNotedAs, IsPast, IsUnheard}
 use Rattle.kn_refinement.proofs.Pairs.{Paired, came_last, came_or_was, nth_empty, paired_change, was_itself, was_still}
 
 -- ---- a client whose core, front and apps are as they were
@@ -175,7 +175,7 @@ pub record AppKept (cs : List Client) (k : ℕ) (a b : App) : Type 0 where
   pub refused : (a.stage ≡ stage.Refused → a.door.closing ≡ false) → b.stage ≡ stage.Refused → b.door.closing ≡ false
   pub at_server : b.door.at_server ≡ a.door.at_server
   pub end_given : b.side.end_given ≡ a.side.end_given
-  pub left : HasLeft a.stage × (a.door.early ≡ []) → HasLeft b.stage × (b.door.early ≡ [])
+  pub left : IsPast a × (a.door.early ≡ []) → IsPast b × (b.door.early ≡ [])
 
 pub app_same : (cs : List Client) (k : ℕ) (a : App) → AppKept cs k a a
 app_same cs k a = record {

@@ -1,8 +1,10 @@
 -- A packet of the server for an app by CONNECT, and the dial that is made for an app, leave what fits.
-use Rattle.std.proofs.Common.{◌≡◌, ◌&&◌, ◌<◌, ◌⊎◌, ℕ, suc, Bool, true, false, cond, List, [], ◌∷◌, length, Some, inl, inr, refl, sym, ◌∙◌, subst}
+use Rattle.std.proofs.Common.{◌≡◌, ◌&&◌, ◌||◌, ◌<◌, ◌⊎◌, ℕ, suc, Bool, true, false, cond, List, [], ◌∷◌, length, Some, inl, inr, refl, sym, ap, ◌∙◌, subst}
 use Rattle.kn_packet.specs.declared.packet.Packet.{Packet}
 use Rattle.kn_packet.specs.declared.packet.Packet.TheVariants.{CloseReq, CloseRsp, Data, DialCls, DialReq, DialRsp, Drain, Other}
 use Rattle.kn_server_core.specs.Isolation.{Each}
+use Rattle.kn_connect.specs.Replies.{status_and_reason}
+use Rattle.kn_connect.specs.Statuses.{error_status, reply_length}
 use Rattle.kn_world.specs.declared.parts.App.{App}
 use Rattle.kn_world.specs.declared.parts.Client.{Client}
 use Rattle.kn_world.specs.declared.parts.Home.TheVariants as home
@@ -12,7 +14,7 @@ use Rattle.kn_world.specs.Apps as apps
 use Rattle.kn_world.specs.Doors as door
 use Rattle.kn_world.specs.Numbers.{nth}
 use Rattle.kn_world.specs.Sides as side
-use Rattle.kn_refinement.specs.Fits.{HasLeft, IsDataOf}
+use Rattle.kn_refinement.specs.Fits.{HasLeft, IsDataOf, IsPast}
 use Rattle.kn_refinement.proofs.FitsClients.{AppKept}
 
 -- ---- what a packet leaves
@@ -24,7 +26,7 @@ pub record HeardKept (a b : App) : Type 0 where
   pub end_given : b.side.end_given ≡ a.side.end_given
   pub early : (b.door.early ≡ a.door.early) ⊎ (b.door.early ≡ [])
   pub refused : (a.stage ≡ stage.Refused → a.door.closing ≡ false) → b.stage ≡ stage.Refused → b.door.closing ≡ false
-  pub left : HasLeft a.stage → HasLeft b.stage
+  pub left : IsPast a → IsPast b
 
 kept_same : (a : App) → HeardKept a a
 kept_same a = record { at = refl; number = refl; at_server = refl; dial = refl; end_given = refl; early = inl refl; refused = λ h. h; left = λ h. h }
@@ -47,7 +49,7 @@ kept_both a b c h i = record {
     both (inr e) g = inr e
 
 ended_kept : (a : App) → HeardKept a (record a { stage = stage.Ended })
-ended_kept a = record { at = refl; number = refl; at_server = refl; dial = refl; end_given = refl; early = inl refl; refused = λ h g. absurd cc; left = λ h. inr refl }
+ended_kept a = record { at = refl; number = refl; at_server = refl; dial = refl; end_given = refl; early = inl refl; refused = λ h g. absurd cc; left = λ h. inl (inr refl) }
 
 emptied_kept : (a : App) → HeardKept a (door.emptied a)
 emptied_kept a = here (a.door.closing && door.is_empty a)
@@ -76,17 +78,17 @@ still_dialling s (inr e) (inl g) = cc
 still_dialling s (inr e) (inr g) = cc
 
 abbrev refusing : ℕ → App → App
-refusing status a = record a { error = door.refusal_text status; stage = stage.Refused; door = record a.door { early = []; reply = door.reply_len status } }
+refusing status a = record a { error = status_and_reason status; stage = stage.Refused; door = record a.door { early = []; reply = reply_length status } }
 
 refused_kept : (status : ℕ) (a : App) → a.door.closing ≡ false → HeardKept a (door.refused status a)
 refused_kept status a e = kept_both a (refusing status a) (door.took_freely a.side.held (refusing status a))
-    (record { at = refl; number = refl; at_server = refl; dial = refl; end_given = refl; early = inr refl; refused = λ h g. e; left = λ h. inl refl })
+    (record { at = refl; number = refl; at_server = refl; dial = refl; end_given = refl; early = inr refl; refused = λ h g. e; left = λ h. inl (inl refl) })
     (freely_kept a.side.held (refusing status a))
 
 abbrev opening : App → App
-opening a = record a { stage = stage.Open; door = door.with_reply 39 a.door }
+opening a = record a { stage = stage.Open; door = door.with_reply (reply_length 200) a.door }
 
-opened_kept : (a : App) → (HasLeft a.stage → ⊥) → HeardKept a (door.opened a)
+opened_kept : (a : App) → (IsPast a → ⊥) → HeardKept a (door.opened a)
 opened_kept a here = kept_both a (opening a) (door.took_freely a.side.held (opening a))
     (record { at = refl; number = refl; at_server = refl; dial = refl; end_given = refl; early = inl refl; refused = λ h g. absurd cc; left = λ h. absurd (here h) })
     (freely_kept a.side.held (opening a))
@@ -104,12 +106,17 @@ closing a = record a { door = record a.door { closing = true } }
 
 closed_kept : (a : App) → (HasLeft a.stage → ⊥) → HeardKept a (door.closed a)
 closed_kept a here = kept_both a (closing a) (door.took_freely a.side.held (closing a))
-    (record { at = refl; number = refl; at_server = refl; dial = refl; end_given = refl; early = inl refl; refused = λ h g. absurd (here (inl g)); left = λ h. h })
+    (record { at = refl; number = refl; at_server = refl; dial = refl; end_given = refl; early = inl refl; refused = λ h g. absurd (here (inl g)); left = λ h. inr refl })
     (freely_kept a.side.held (closing a))
 
+-- one that has not left, and whose tunnel has not ended
+not_past : (a : App) → (HasLeft a.stage → ⊥) → a.door.closing ≡ false → IsPast a → ⊥
+not_past a here e (inl left) = here left
+not_past a here e (inr ends) = cc (e, ends)
+
 answered_kept : (error : List ℕ) (a : App) → (HasLeft a.stage → ⊥) → a.door.closing ≡ false → HeardKept a (door.answered error a)
-answered_kept [] a here e = opened_kept a here
-answered_kept (x ∷ xs) a here e = refused_kept (door.error_status (x ∷ xs)) a e
+answered_kept [] a here e = opened_kept a (not_past a here e)
+answered_kept (x ∷ xs) a here e = refused_kept (error_status (x ∷ xs)) a e
 
 packet_kept : (p : Packet) (a : App) → (HasLeft a.stage → ⊥) → a.door.closing ≡ false → HeardKept a (door.heard p a)
 packet_kept (DialRsp error connect_id random) a here e = answered_kept error a here e
@@ -137,8 +144,12 @@ by_kept stage.Ended p a is e = record {
   end_given = refl;
   early = inl refl;
   refused = λ h g. absurd cc;
-  left = λ h. h;
+  left = λ h. ends_still h;
 }
+  where
+    ends_still : IsPast a → IsPast (door.heard_late p a)
+    ends_still (inl left) = inl left
+    ends_still (inr ends) = inr (ap (λ b. b || door.finishes p) ends)
 
 pub heard_kept : (p : Packet) (a : App) → HeardKept a (apps.heard p a)
 heard_kept p a = here a.door.closing refl

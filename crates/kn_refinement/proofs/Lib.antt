@@ -66,6 +66,8 @@ pub mod LeadsUp
 pub mod NamedLinks
 pub mod NumberLemmas
 pub mod OwnDials
+pub mod OwnParts
+pub mod OwnRuns
 pub mod Pairs
 pub mod Promises
 pub mod Rounds

@@ -24,7 +24,7 @@ use Rattle.kn_refinement.specs.Fits.{Fits}
 use Rattle.kn_refinement.specs.Headline.{GetsNothingUndialled, IsShownDialled, KeepsChoices, OwnsItsDial}
 use Rattle.kn_refinement.specs.Shown.{app_at_home, app_of, client_app, connect_app, is_told, number_if, shown}
 use Rattle.kn_refinement.proofs.Pairs.{some_is}
-use Rattle.kn_refinement.proofs.Promises.{dial_not_none, nth_map, number_some}
+use Rattle.kn_refinement.proofs.Promises.{dial_not_none, nth_map}
 
 none_joined : (xs ys : List ℕ) → xs ++ ys ≡ [] → xs ≡ []
 none_joined [] ys e = refl

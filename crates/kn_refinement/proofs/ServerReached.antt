@@ -9,7 +9,7 @@ use Rattle.kn_tunnel.specs.Kinds.{is_gone, is_present}
 use Rattle.kn_packets.specs.Keys.{Keys}
 use Rattle.kn_packets.specs.Moves.{Makes, May, Move, after, no_app, server_does}
 use Rattle.kn_packets.specs.World.{World}
-use Rattle.kn_packets.proofs.Taken.{and_first}
+use Rattle.kn_packets.proofs.Taken.{and_first, and_second}
 use Rattle.kn_world.specs.declared.parts.Agent.{Agent}
 use Rattle.kn_world.specs.declared.parts.App.{App}
 use Rattle.kn_world.specs.declared.parts.Client.{Client}
@@ -22,7 +22,7 @@ use Rattle.kn_world.specs.declared.state.State.{State}
 use Rattle.kn_world.specs.Numbers.{nth}
 use Rattle.kn_world.specs.ServerSteps.{step}
 use Rattle.kn_world.specs.Idle.{is_at_door}
-use Rattle.kn_refinement.specs.Fits.{Fits, HasLeft}
+use Rattle.kn_refinement.specs.Fits.{Fits, HasLeft, IsPast}
 use Rattle.kn_refinement.specs.Leads.{Leads}
 use Rattle.kn_refinement.specs.Settled.{settled, takes}
 use Rattle.kn_refinement.specs.Shown.{app_at_home, app_of, client_stream, connect_app, connect_stream, front_if, link_of, shown, stream_of}
@@ -38,7 +38,7 @@ module _ (s : State) (fits : Fits s) where
   no_client c (Some x) t = absurd cc
 
   -- an app by CONNECT that still takes has its front at the server
-  connected : (a : App) (at_server : Bool) → a.door.at_server ≡ at_server → takes (connect_stream 0 (Some a)) ≡ true → (a.door.at_server ≡ false → HasLeft a.stage) → is_gone (front_if a.door.at_server) ≡ false
+  connected : (a : App) (at_server : Bool) → a.door.at_server ≡ at_server → takes (connect_stream 0 (Some a)) ≡ true → (a.door.at_server ≡ false → IsPast a) → is_gone (front_if a.door.at_server) ≡ false
   connected a true e t gone = ap (λ b. is_gone (front_if b)) e
   connected a false e t gone = here (gone e)
     where
@@ -50,10 +50,11 @@ module _ (s : State) (fits : Fits s) where
       left stage.Open (inl h) = absurd cc
       left stage.Open (inr h) = absurd cc
 
-      here : HasLeft a.stage → is_gone (front_if a.door.at_server) ≡ false
-      here h = absurd (cc (and_first (is_at_door a.stage) (not a.door.closing) t, left a.stage h))
+      here : IsPast a → is_gone (front_if a.door.at_server) ≡ false
+      here (inr ends) = absurd (cc (and_second (is_at_door a.stage) (not a.door.closing) t, ends))
+      here (inl h) = absurd (cc (and_first (is_at_door a.stage) (not a.door.closing) t, left a.stage h))
 
-  numbered : (k : ℕ) (a : App) → nth k s.apps ≡ Some a → a.home ≡ home.Connect → (f : ℕ) → a.door.number ≡ f → (o : Owner) → nth f s.fronts ≡ Some o → a.door.at_server ≡ false → HasLeft a.stage
+  numbered : (k : ℕ) (a : App) → nth k s.apps ≡ Some a → a.home ≡ home.Connect → (f : ℕ) → a.door.number ≡ f → (o : Owner) → nth f s.fronts ≡ Some o → a.door.at_server ≡ false → IsPast a
   numbered k a e h zero z o i gone = absurd cc
   numbered k a e h (suc n) z o i gone = (fits.fronts.gone k n a e h z gone).0
 

@@ -57,6 +57,10 @@ IsNotedAs listed.Lingering noted = noted ≡ stage.Open
 abbrev pub HasLeft : Stage → Type 0
 HasLeft noted = (noted ≡ stage.Refused) ⊎ (noted ≡ stage.Ended)
 
+-- an app by CONNECT of which the server takes no more: it has left, or the server has ended its tunnel
+abbrev pub IsPast : App → Type 0
+IsPast a = HasLeft a.stage ⊎ (a.door.closing ≡ true)
+
 pub record ClientFits (clients : List Client) (apps : List App) : Type 0 where
   pub of_number : (c n app : ℕ) (x : Client) → nth c clients ≡ Some x → nth n x.apps ≡ Some app → (a : App) × (nth app apps ≡ Some a) × (a.home ≡ home.Client c n)
   pub number_of : (app c n : ℕ) (a : App) → nth app apps ≡ Some a → a.home ≡ home.Client c n → (x : Client) × (nth c clients ≡ Some x) × (nth n x.apps ≡ Some app)
@@ -100,8 +104,8 @@ pub record FrontFits (clients : List Client) (apps : List App) (fronts : List Ow
   -- one that was refused has no tunnel that the server would end; the server has the front of one whose end it was not told
   pub refused : (app : ℕ) (a : App) → nth app apps ≡ Some a → a.home ≡ home.Connect → a.stage ≡ stage.Refused → a.door.closing ≡ false
   pub present : (app n : ℕ) (a : App) → nth app apps ≡ Some a → a.home ≡ home.Connect → a.door.number ≡ suc n → a.side.end_given ≡ false → a.door.at_server ≡ true
-  -- one whose front the server lost has left, and nothing of it is kept
-  pub gone : (app n : ℕ) (a : App) → nth app apps ≡ Some a → a.home ≡ home.Connect → a.door.number ≡ suc n → a.door.at_server ≡ false → HasLeft a.stage × (a.door.early ≡ [])
+  -- one whose front the server lost has left, or its tunnel has ended, and nothing of it is kept
+  pub gone : (app n : ℕ) (a : App) → nth app apps ≡ Some a → a.home ≡ home.Connect → a.door.number ≡ suc n → a.door.at_server ≡ false → IsPast a × (a.door.early ≡ [])
   pub known : (f : ℕ) → is_up f up ≡ true → (o : Owner) × (nth f fronts ≡ Some o)
 
 -- ---- a dial is of the app that asked for it, and the app knows it

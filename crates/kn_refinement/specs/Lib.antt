@@ -5,6 +5,7 @@ pub mod Headline
 pub mod Homes
 pub mod Leads
 pub mod Named
+pub mod OwnBytes
 pub mod Requests
 pub mod Settled
 pub mod Shown

@@ -11,6 +11,7 @@ ghost use Rattle.kn_world.specs.States as running;
 ghost use Rattle.kn_refinement.specs.Chosen.{agents_in};
 ghost use Rattle.kn_refinement.specs.Fits.{Fits};
 ghost use Rattle.kn_refinement.specs.Headline.{KeepsPromises};
+ghost use Rattle.kn_refinement.specs.OwnBytes.{SendsOwn, app_bytes, dial_bytes};
 ghost use Rattle.kn_refinement.specs.Shown.{shown};
 
 /// A running world begins as the packet world does, and its parts fit.
@@ -34,4 +35,11 @@ pub fn events_are_moves()
 pub fn worlds_keep_their_promises()
     ensures { (strategies : List Strategy) (events : List WorldEvent) (idle : ℕ) (s : State) → Runs events (running.start strategies) idle s
         → KeepsPromises strategies (agents_in events) s }
+{}
+
+/// After every list of events each app, and each destination, has sent the bytes of the events that were not idle for it, joined, and no others; a
+/// CONNECT app those behind its head.
+pub fn sides_send_their_own_bytes()
+    ensures { (strategies : List Strategy) (events : List WorldEvent) (idle : ℕ) (s : State) → (runs : Runs events (running.start strategies) idle s)
+        → SendsOwn (app_bytes events (running.start strategies) idle s runs) (dial_bytes events (running.start strategies) idle s runs) s }
 {}

@@ -16,7 +16,9 @@ pub use agent_laws::{agents_lead, destinations_lead};
 pub use choice_laws::{choices_decide, requests_go_where_picked};
 pub use client_laws::{client_apps_lead, clients_lead};
 pub use connect_laws::connects_lead;
-pub use laws::{events_are_moves, worlds_begin_alike, worlds_keep_their_promises};
+pub use laws::{
+    events_are_moves, sides_send_their_own_bytes, worlds_begin_alike, worlds_keep_their_promises,
+};
 pub use named_laws::choices_name_all_links;
 pub use server_event_laws::server_events_lead;
 pub use server_laws::server_steps_are_moves;

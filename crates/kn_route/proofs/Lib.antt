@@ -1,7 +1,13 @@
 pub mod AddressLemmas
 pub mod ChoiceLemmas
 pub mod CutLemmas
+pub mod FittingLemmas
 pub mod HostLemmas
+pub mod HostTextLemmas
 pub mod LinkLemmas
+pub mod ListLemmas
+pub mod ListingLaws
 pub mod ListingLemmas
+pub mod PickLemmas
+pub mod PlaceLemmas
 pub mod RangeLemmas

@@ -1,6 +1,9 @@
 ghost use Rattle.std.specs.Prelude.{◌≡◌, ◌<◌, not, map, filter, length, IfOk, OnOk, OnErr};
 ghost use Rattle.kn_route.specs.LinkLists as spec;
 ghost use Rattle.kn_route.specs.Choice as choice;
+ghost use Rattle.kn_route.specs.Places.{IsOnlyPlace};
+ghost use Rattle.std.specs.List.{list_any};
+ghost use Rattle.std.specs.List.Sorted.{IsStrictlyIncreasing};
 
 use crate::address::address_of;
 use crate::choice::pick;
@@ -21,18 +24,34 @@ fn drain_link(link: &mut Link, number: u64)
     }
 }
 
-fn drain_links(links: &mut [Link], number: u64)
-    ensures { links.new ≡ map (spec.drained number) links.old }
+// Where the link of a number stands among links by rising number, or where it would stand.
+fn place_of(links: &[Link], number: u64) -> usize
+    requires { IsStrictlyIncreasing (spec.numbers_of links.now) }
+    ensures { IsOnlyPlace number links.now result }
 {
-    for index in 0..links.len() {
-        drain_link(&mut links[index], number);
-    }
+    links.partition_point(|link| link.number < number)
 }
 
 fn drain_all(links: &mut Vec<Link>, number: u64)
+    requires { IsStrictlyIncreasing (spec.numbers_of links.old.items) }
     ensures { links.new.items ≡ map (spec.drained number) links.old.items }
 {
-    drain_links(links, number);
+    let place = place_of(links, number);
+    if place < links.len() {
+        drain_link(&mut links[place], number);
+    }
+}
+
+fn holds(links: &[Link], number: u64) -> bool
+    requires { IsStrictlyIncreasing (spec.numbers_of links.now) }
+    ensures { result ≡ list_any (spec.is_link number) links.now }
+{
+    let place = place_of(links, number);
+    if place < links.len() {
+        links[place].number == number
+    } else {
+        false
+    }
 }
 
 fn remove_link(links: &mut Vec<Link>, number: u64)
@@ -110,7 +129,7 @@ impl Links {
     pub fn has(&self, link: u64) -> bool
         ensures { result ≡ spec.has_link link self.now }
     {
-        self.links.iter().any(|l| l.number == link)
+        holds(&self.links, link)
     }
 
     /// The greatest number that a link ever had, or 0.

@@ -11,7 +11,7 @@ use Rattle.kn_port.specs.Journal.{Tells, listen_entries}
 use Rattle.kn_port.specs.Answers.{ListenCounts, Failing}
 use Rattle.kn_loop.specs.declared.gates.Gates.{Gates}
 use Rattle.kn_loop.specs.Gates.{no_gates, gate_listened}
-use Rattle.kn_serve.specs.declared.words.ServerWords.{ServerWords}
+use Rattle.kn_options.specs.declared.options.ServerOptions.{ServerOptions}
 use Rattle.kn_serve.specs.First.{ServerListens, FailsWith, after, entries_after, gates_after, after_any, entries_after_any, gates_after_any}
 
 pub tells_then : (a b c : Option (List Entry)) (es fs : List Entry) → Tells a b es → Tells b c fs → Tells a c (es ++ fs)
@@ -46,17 +46,17 @@ counts_then listened.Failed answer a b c first up fails = rw fails (sooner a b c
 counts_then listened.NoMemory answer a b c first up fails = rw fails (omega arith)
 
 -- the three gates of a server
-pub server_listens : (words : ServerWords) (t0 t1 t2 t3 : Option (List Entry)) (g1 g2 g3 : Gates) (agents clients connect both all : Listened)
-    → Tells t0 t1 (listen_entries gate.Agents words.agents agents) → g1 ≡ gate_listened gate.Agents agents no_gates
-    → Tells t1 t2 (entries_after agents gate.Clients words.clients clients) → g2 ≡ gates_after agents gate.Clients clients g1 → both ≡ after agents clients
-    → Tells t2 t3 (entries_after_any words.connect both gate.Connect connect) → g3 ≡ gates_after_any words.connect both gate.Connect connect g2 → all ≡ after_any words.connect both connect
-    → ServerListens words t0 t3 g3 all
-server_listens words t0 t1 t2 t3 g1 g2 g3 agents clients connect both all told1 opened1 told2 opened2 came2 told3 opened3 came3 = record {
+pub server_listens : (options : ServerOptions) (t0 t1 t2 t3 : Option (List Entry)) (g1 g2 g3 : Gates) (agents clients connect both all : Listened)
+    → Tells t0 t1 (listen_entries gate.Agents options.agents agents) → g1 ≡ gate_listened gate.Agents agents no_gates
+    → Tells t1 t2 (entries_after agents gate.Clients options.clients clients) → g2 ≡ gates_after agents gate.Clients clients g1 → both ≡ after agents clients
+    → Tells t2 t3 (entries_after_any options.connect both gate.Connect connect) → g3 ≡ gates_after_any options.connect both gate.Connect connect g2 → all ≡ after_any options.connect both connect
+    → ServerListens options t0 t3 g3 all
+server_listens options t0 t1 t2 t3 g1 g2 g3 agents clients connect both all told1 opened1 told2 opened2 came2 told3 opened3 came3 = record {
   agents = agents;
   clients = clients;
   connect = connect;
-  told = tells_then t0 t1 t3 _ _ told1 (tells_then t1 t2 t3 _ _ told2 (subst (λ b. Tells t2 t3 (entries_after_any words.connect b gate.Connect connect)) came2 told3));
-  gates = opened3 ∙ ap (λ b. gates_after_any words.connect b gate.Connect connect g2) came2
-      ∙ ap (λ g. gates_after_any words.connect (after agents clients) gate.Connect connect g) (opened2 ∙ ap (λ g. gates_after agents gate.Clients clients g) opened1);
-  answer = came3 ∙ ap (λ b. after_any words.connect b connect) came2;
+  told = tells_then t0 t1 t3 _ _ told1 (tells_then t1 t2 t3 _ _ told2 (subst (λ b. Tells t2 t3 (entries_after_any options.connect b gate.Connect connect)) came2 told3));
+  gates = opened3 ∙ ap (λ b. gates_after_any options.connect b gate.Connect connect g2) came2
+      ∙ ap (λ g. gates_after_any options.connect (after agents clients) gate.Connect connect g) (opened2 ∙ ap (λ g. gates_after agents gate.Clients clients g) opened1);
+  answer = came3 ∙ ap (λ b. after_any options.connect b connect) came2;
 }

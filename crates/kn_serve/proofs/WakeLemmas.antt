@@ -49,7 +49,7 @@ left_after n all before after awake0 awake1 e added left c h =
     left c off.1 ∙ ap (is_stirred c) e ∙ last_other n c after off.0
 
 -- of a node nothing else is other than before
-pub server_popped : (all old new : server_node.Node) (stirred : List ℕ) → old ≡ record new { stirred = stirred } → old ≡ record all { stirred = old.stirred } → new ≡ record all { stirred = new.stirred }
+pub server_popped : (all old new : server_node.Node) (stirred : List ℕ) → old ≡ record new { stirred = stirred } → old ≡ record all { choices = []; stirred = old.stirred } → new ≡ record all { choices = []; stirred = new.stirred }
 server_popped all old new stirred e f =
     sym (ap {A = server_node.Node} (λ n. record n { stirred = new.stirred }) e) ∙ ap {A = server_node.Node} (λ n. record n { stirred = new.stirred }) f
 
@@ -67,10 +67,10 @@ same_answers : (wants1 wants0 : Bool) (out1 out0 : List ℕ) (shuts1 shuts0 : Bo
 same_answers wants1 wants0 out1 out0 shuts1 shuts0 o s = rw (o, s) refl
 
 server_same : (old mid : server_node.Node) (c : ℕ) → (server.out_of mid c ≡ server.out_of old c) × (server.shuts_of mid c ≡ server.shuts_of old c)
-    → unpaused (server_answers (record mid { stirred = [] })) c ≡ unpaused (server_answers old) c
+    → unpaused (server_answers (record mid { choices = []; stirred = [] })) c ≡ unpaused (server_answers old) c
 server_same old mid c p = same_answers (server.wants_of mid c) (server.wants_of old c) (server.out_of mid c) (server.out_of old c) (server.shuts_of mid c) (server.shuts_of old c) p.0 p.1
 
-pub server_wakes : (old mid new : server_node.Node) (awake0 awake1 : ℕ → Bool) → server_stirs.Stirs old mid → WakesStirred mid.stirred awake0 awake1 → new ≡ record mid { stirred = [] }
+pub server_wakes : (old mid new : server_node.Node) (awake0 awake1 : ℕ → Bool) → server_stirs.Stirs old mid → WakesStirred mid.stirred awake0 awake1 → new ≡ record mid { choices = []; stirred = [] }
     → Wakes awake0 awake1 (unpaused (server_answers old)) (unpaused (server_answers new))
 server_wakes old mid new awake0 awake1 stirs wakes e c = (
   (wakes c).0,

@@ -10,7 +10,7 @@ use Rattle.kn_port.specs.Answers.{ListenCounts}
 use Rattle.kn_loop.specs.declared.gates.Gates.{Gates}
 use Rattle.kn_loop.specs.declared.course.Course.{Course}
 use Rattle.kn_loop.specs.Gates.{no_gates, gate_listened}
-use Rattle.kn_serve.specs.declared.words.ServerWords.{ServerWords}
+use Rattle.kn_options.specs.declared.options.ServerOptions.{ServerOptions}
 
 -- ---- gates: each is opened only where all before it were
 
@@ -30,7 +30,7 @@ gates_after listened.Done g answer gs = gate_listened g answer gs
 gates_after listened.Failed g answer gs = gs
 gates_after listened.NoMemory g answer gs = gs
 
--- a gate that the words leave out is none
+-- a gate that the options leave out is none
 abbrev pub after_any : Option (List ℕ) → Listened → Listened → Listened
 after_any None before answer = before
 after_any (Some a) before answer = after before answer
@@ -43,16 +43,16 @@ abbrev pub gates_after_any : Option (List ℕ) → Listened → Gate → Listene
 gates_after_any None before g answer gs = gs
 gates_after_any (Some a) before g answer gs = gates_after before g answer gs
 
--- a server listens for agents, for clients, and where the words have it for HTTP CONNECT
-pub record ServerListens (words : ServerWords) (told0 told1 : Option (List Entry)) (opened : Gates) (result : Listened) : Type 0 where
+-- a server listens for agents, for clients, and where the options have it for HTTP CONNECT
+pub record ServerListens (options : ServerOptions) (told0 told1 : Option (List Entry)) (opened : Gates) (result : Listened) : Type 0 where
   pub agents : Listened
   pub clients : Listened
   pub connect : Listened
-  pub told : Tells told0 told1 (listen_entries gate.Agents words.agents agents ++ (entries_after agents gate.Clients words.clients clients
-      ++ entries_after_any words.connect (after agents clients) gate.Connect connect))
-  pub gates : opened ≡ gates_after_any words.connect (after agents clients) gate.Connect connect
+  pub told : Tells told0 told1 (listen_entries gate.Agents options.agents agents ++ (entries_after agents gate.Clients options.clients clients
+      ++ entries_after_any options.connect (after agents clients) gate.Connect connect))
+  pub gates : opened ≡ gates_after_any options.connect (after agents clients) gate.Connect connect
       (gates_after agents gate.Clients clients (gate_listened gate.Agents agents no_gates))
-  pub answer : result ≡ after_any words.connect (after agents clients) connect
+  pub answer : result ≡ after_any options.connect (after agents clients) connect
 
 -- one gate more fails only where the count of faults rose, or one before it did
 abbrev pub FailsWith : Listened → Listened → ℕ → ℕ → Type 0

@@ -22,9 +22,9 @@ use Rattle.kn_client_node.specs.Calls as client
 use Rattle.kn_serve.specs.declared.server_side.ServerSide.{ServerSide}
 use Rattle.kn_serve.specs.declared.agent_side.AgentSide.{AgentSide}
 use Rattle.kn_serve.specs.declared.client_side.ClientSide.{ClientSide}
-use Rattle.kn_serve.specs.declared.words.ServerWords.{ServerWords}
-use Rattle.kn_serve.specs.declared.words.AgentWords.{AgentWords}
-use Rattle.kn_serve.specs.declared.words.ClientWords.{ClientWords}
+use Rattle.kn_options.specs.declared.options.ServerOptions.{ServerOptions}
+use Rattle.kn_options.specs.declared.options.AgentOptions.{AgentOptions}
+use Rattle.kn_options.specs.declared.options.ClientOptions.{ClientOptions}
 use Rattle.kn_serve.specs.Sides as side
 use Rattle.kn_serve.specs.First.{ServerListens, first_course}
 use Rattle.kn_serve.specs.Working.{Works}
@@ -66,56 +66,56 @@ client_answer w s = answer_of (is_done w.course s.node.gone w.lines (side.client
 abbrev pub CannotBegin : Option (List Entry) → Option (List Entry) → Turn → Type 0
 CannotBegin told0 told1 result = (result ≡ turn.NoMemory) × (told1 ≡ told0)
 
-abbrev pub ServerWorks : ServerWords → Gates → Option (List Entry) → Option (List Entry) → Turn → Type 0
-ServerWorks words gates told0 told1 result = CannotBegin told0 told1 result ⊎ ((w : Watch) × (s : ServerSide)
-    × (s.node ≡ server.start words.strategies words.id) × Starts None gates 0 (first_course words.tunnels words.turns) w
+abbrev pub ServerWorks : ServerOptions → Gates → Option (List Entry) → Option (List Entry) → Turn → Type 0
+ServerWorks options gates told0 told1 result = CannotBegin told0 told1 result ⊎ ((w : Watch) × (s : ServerSide)
+    × (s.node ≡ server.start options.strategies options.id 1) × Starts None gates 0 (first_course options.tunnels options.turns) w
     × Works ServerTurns (server_answer w s) told0 w s told1 result)
 
-abbrev pub AgentWorks : AgentWords → ℕ → Option (List Entry) → Option (List Entry) → Turn → Type 0
-AgentWorks words n told0 told1 result = CannotBegin told0 told1 result ⊎ ((w : Watch) × (s : AgentSide)
-    × (s.node ≡ agent.started n words.server words.id words.identifiers) × Starts (Some n) no_gates words.drain (first_course words.tunnels words.turns) w
+abbrev pub AgentWorks : AgentOptions → ℕ → Option (List Entry) → Option (List Entry) → Turn → Type 0
+AgentWorks options n told0 told1 result = CannotBegin told0 told1 result ⊎ ((w : Watch) × (s : AgentSide)
+    × (s.node ≡ agent.started n options.server options.id options.identifiers) × Starts (Some n) no_gates options.drain (first_course options.tunnels options.turns) w
     × Works AgentTurns (agent_answer_of w s) told0 w s told1 result)
 
-abbrev pub ClientWorks : ClientWords → Gates → ℕ → Option (List Entry) → Option (List Entry) → Turn → Type 0
-ClientWorks words gates n told0 told1 result = CannotBegin told0 told1 result ⊎ ((w : Watch) × (s : ClientSide)
-    × (s.node ≡ client.fresh_node n words.server) × (s.address ≡ words.address) × Starts (Some n) gates 0 (first_course words.tunnels words.turns) w
+abbrev pub ClientWorks : ClientOptions → Gates → ℕ → Option (List Entry) → Option (List Entry) → Turn → Type 0
+ClientWorks options gates n told0 told1 result = CannotBegin told0 told1 result ⊎ ((w : Watch) × (s : ClientSide)
+    × (s.node ≡ client.fresh_node n options.server) × (s.address ≡ options.address) × Starts (Some n) gates 0 (first_course options.tunnels options.turns) w
     × Works ClientTurns (client_answer w s) told0 w s told1 result)
 
 -- ---- whole runs
 
-abbrev pub ServerGoesOn : ServerWords → Gates → Listened → Option (List Entry) → Option (List Entry) → Turn → Type 0
-ServerGoesOn words gates listened.Done told0 told1 result = ServerWorks words gates told0 told1 result
-ServerGoesOn words gates listened.Failed told0 told1 result = (result ≡ turn.BindFault) × (told1 ≡ told0)
-ServerGoesOn words gates listened.NoMemory told0 told1 result = CannotBegin told0 told1 result
+abbrev pub ServerGoesOn : ServerOptions → Gates → Listened → Option (List Entry) → Option (List Entry) → Turn → Type 0
+ServerGoesOn options gates listened.Done told0 told1 result = ServerWorks options gates told0 told1 result
+ServerGoesOn options gates listened.Failed told0 told1 result = (result ≡ turn.BindFault) × (told1 ≡ told0)
+ServerGoesOn options gates listened.NoMemory told0 told1 result = CannotBegin told0 told1 result
 
 -- a server listens, and then its node works
-abbrev pub ServerRuns : ServerWords → Option (List Entry) → Option (List Entry) → Turn → Type 0
-ServerRuns words told0 told1 result = (gates : Gates) × (answer : Listened) × (told : Option (List Entry)) × ServerListens words told0 told gates answer × ServerGoesOn words gates answer told told1 result
+abbrev pub ServerRuns : ServerOptions → Option (List Entry) → Option (List Entry) → Turn → Type 0
+ServerRuns options told0 told1 result = (gates : Gates) × (answer : Listened) × (told : Option (List Entry)) × ServerListens options told0 told gates answer × ServerGoesOn options gates answer told told1 result
 
-abbrev pub AgentGoesOn : AgentWords → Dialled → Option (List Entry) → Option (List Entry) → Turn → Type 0
-AgentGoesOn words (dialled.Conn n) told0 told1 result = AgentWorks words n told0 told1 result
-AgentGoesOn words dialled.Failed told0 told1 result = (result ≡ turn.ServerLost) × (told1 ≡ told0)
-AgentGoesOn words dialled.NoMemory told0 told1 result = CannotBegin told0 told1 result
+abbrev pub AgentGoesOn : AgentOptions → Dialled → Option (List Entry) → Option (List Entry) → Turn → Type 0
+AgentGoesOn options (dialled.Conn n) told0 told1 result = AgentWorks options n told0 told1 result
+AgentGoesOn options dialled.Failed told0 told1 result = (result ≡ turn.ServerLost) × (told1 ≡ told0)
+AgentGoesOn options dialled.NoMemory told0 told1 result = CannotBegin told0 told1 result
 
 -- an agent dials its server, and then its node works on that connection
-abbrev pub AgentRuns : AgentWords → Option (List Entry) → Option (List Entry) → Turn → Type 0
-AgentRuns words told0 told1 result = (answer : Dialled) × (told : Option (List Entry)) × Tells told0 told (dial_entries words.server answer) × AgentGoesOn words answer told told1 result
+abbrev pub AgentRuns : AgentOptions → Option (List Entry) → Option (List Entry) → Turn → Type 0
+AgentRuns options told0 told1 result = (answer : Dialled) × (told : Option (List Entry)) × Tells told0 told (dial_entries options.server answer) × AgentGoesOn options answer told told1 result
 
-abbrev pub ClientGoesOn : ClientWords → Gates → Dialled → Option (List Entry) → Option (List Entry) → Turn → Type 0
-ClientGoesOn words gates (dialled.Conn n) told0 told1 result = ClientWorks words gates n told0 told1 result
-ClientGoesOn words gates dialled.Failed told0 told1 result = (result ≡ turn.ServerLost) × (told1 ≡ told0)
-ClientGoesOn words gates dialled.NoMemory told0 told1 result = CannotBegin told0 told1 result
+abbrev pub ClientGoesOn : ClientOptions → Gates → Dialled → Option (List Entry) → Option (List Entry) → Turn → Type 0
+ClientGoesOn options gates (dialled.Conn n) told0 told1 result = ClientWorks options gates n told0 told1 result
+ClientGoesOn options gates dialled.Failed told0 told1 result = (result ≡ turn.ServerLost) × (told1 ≡ told0)
+ClientGoesOn options gates dialled.NoMemory told0 told1 result = CannotBegin told0 told1 result
 
-abbrev pub ClientDials : ClientWords → Gates → Option (List Entry) → Option (List Entry) → Turn → Type 0
-ClientDials words gates told0 told1 result = (answer : Dialled) × (told : Option (List Entry)) × Tells told0 told (dial_entries words.server answer) × ClientGoesOn words gates answer told told1 result
+abbrev pub ClientDials : ClientOptions → Gates → Option (List Entry) → Option (List Entry) → Turn → Type 0
+ClientDials options gates told0 told1 result = (answer : Dialled) × (told : Option (List Entry)) × Tells told0 told (dial_entries options.server answer) × ClientGoesOn options gates answer told told1 result
 
 -- it dials only where its gate is open
-abbrev pub ClientListened : ClientWords → Gates → Listened → Option (List Entry) → Option (List Entry) → Turn → Type 0
-ClientListened words gates listened.Done told0 told1 result = ClientDials words gates told0 told1 result
-ClientListened words gates listened.Failed told0 told1 result = (result ≡ turn.BindFault) × (told1 ≡ told0)
-ClientListened words gates listened.NoMemory told0 told1 result = CannotBegin told0 told1 result
+abbrev pub ClientListened : ClientOptions → Gates → Listened → Option (List Entry) → Option (List Entry) → Turn → Type 0
+ClientListened options gates listened.Done told0 told1 result = ClientDials options gates told0 told1 result
+ClientListened options gates listened.Failed told0 told1 result = (result ≡ turn.BindFault) × (told1 ≡ told0)
+ClientListened options gates listened.NoMemory told0 told1 result = CannotBegin told0 told1 result
 
 -- a client listens, dials its server, and then its node works on that connection
-abbrev pub ClientRuns : ClientWords → Option (List Entry) → Option (List Entry) → Turn → Type 0
-ClientRuns words told0 told1 result = (answer : Listened) × (told : Option (List Entry)) × Tells told0 told (listen_entries gate.Apps words.listen answer)
-    × ClientListened words (gate_listened gate.Apps answer no_gates) answer told told1 result
+abbrev pub ClientRuns : ClientOptions → Option (List Entry) → Option (List Entry) → Turn → Type 0
+ClientRuns options told0 told1 result = (answer : Listened) × (told : Option (List Entry)) × Tells told0 told (listen_entries gate.Apps options.listen answer)
+    × ClientListened options (gate_listened gate.Apps answer no_gates) answer told told1 result

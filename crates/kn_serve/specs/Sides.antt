@@ -66,9 +66,9 @@ WakesStirred stirred awake0 awake1 = (c : ℕ) → (awake0 c ≡ true → awake1
 
 -- ---- what a call of the loop is to the node
 
--- a server's call, and then what was stirred is taken out
+-- a server's call, and then what it chose is dropped, and what was stirred is taken out
 abbrev pub ServerCalled : server_node.Node → server.Called → server_node.Node → Type 0
-ServerCalled old call new = (mid : server_node.Node) × server.Handling old call mid × (new ≡ record mid { stirred = [] })
+ServerCalled old call new = (mid : server_node.Node) × server.Handling old call mid × (new ≡ record mid { choices = []; stirred = [] })
 
 -- of a server the end of a connection's bytes is its loss; it dials nothing, and a
 -- connection that it did not ask for would be as one that came to the gate of CONNECT

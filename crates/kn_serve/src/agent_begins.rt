@@ -13,29 +13,29 @@ ghost use Rattle.kn_serve.specs.Sides as side;
 ghost use Rattle.kn_serve.specs.Programs.{AgentWorks, AgentRuns};
 ghost use Rattle.kn_serve.specs.Working.{IsLast, RunCounts};
 
-use crate::AgentWords;
 use crate::agent_side::AgentSide;
 use crate::first::course;
 use crate::serving::work;
 use kn_agent_node::AgentNode;
 use kn_io::NoMemory;
 use kn_loop::{Course, Gates, Running, Turn};
+use kn_options::AgentOptions;
 use kn_port::{Dialled, Port};
 use std::alloc::Global;
 use std::sync::Wait;
 
 /// The agent's node on the connection that was dialled.
-fn fresh_node(alloc: Global, conn: u64, words: &AgentWords) -> Result<AgentNode, NoMemory>
-    ensures started { IfOk result (λ node. node ≡ agent.started conn words.now.server words.now.id words.now.identifiers) }
+fn fresh_node(alloc: Global, conn: u64, options: &AgentOptions) -> Result<AgentNode, NoMemory>
+    ensures started { IfOk result (λ node. node ≡ agent.started conn options.now.server options.now.id options.now.identifiers) }
     ensures top { IfOk result (λ node. node.top ≡ conn) }
     ensures stays { IfOk result (λ node. shuts_of node conn ≡ false) }
 {
     AgentNode::new(
         alloc,
         conn,
-        words.server.as_str(),
-        words.id.as_str(),
-        words.identifiers.as_str(),
+        options.server.as_str(),
+        options.id.as_str(),
+        options.identifiers.as_str(),
     )
 }
 
@@ -63,15 +63,19 @@ fn run_node(
     Ok(running)
 }
 
-fn run_agent(alloc: Global, conn: u64, words: &AgentWords) -> Result<Running<AgentSide>, NoMemory>
+fn run_agent(
+    alloc: Global,
+    conn: u64,
+    options: &AgentOptions,
+) -> Result<Running<AgentSide>, NoMemory>
     requires { 0 < conn }
-    ensures node { IfOk result (λ r. r.node.node ≡ agent.started conn words.now.server words.now.id words.now.identifiers) }
-    ensures watch { IfOk result (λ r. Starts (Some conn) no_gates words.now.drain (first_course words.now.tunnels words.now.turns) r.watch) }
+    ensures node { IfOk result (λ r. r.node.node ≡ agent.started conn options.now.server options.now.id options.now.identifiers) }
+    ensures watch { IfOk result (λ r. Starts (Some conn) no_gates options.now.drain (first_course options.now.tunnels options.now.turns) r.watch) }
     ensures ready { IfOk result (λ r. (drawn : ℕ) (told : Option (List Entry)) → conn ≤ drawn → IsAtHand (Some conn) told → Steady r.busy.items r.awake r.watch (side.agent_answers r.node.node) (side.top_of r.node.node.top r.node.other) drawn told) }
 {
-    let node = fresh_node(alloc, conn, words)?;
-    let course = course(words.tunnels, words.turns);
-    let running = run_node(alloc, conn, node, words.drain, course)?;
+    let node = fresh_node(alloc, conn, options)?;
+    let course = course(options.tunnels, options.turns);
+    let running = run_node(alloc, conn, node, options.drain, course)?;
     Ok(running)
 }
 
@@ -79,16 +83,16 @@ fn work_agent<W: Wait, P: Port>(
     rt: &W,
     alloc: Global,
     conn: u64,
-    words: &AgentWords,
+    options: &AgentOptions,
     port: &mut P,
 ) -> Turn
     requires drawn { (0 < conn) × (conn ≤ P.last port.old) }
     requires hand { IsAtHand (Some conn) (P.told port.old) }
-    ensures works { AgentWorks words.now conn (P.told port.old) (P.told port.new) result }
+    ensures works { AgentWorks options.now conn (P.told port.old) (P.told port.new) result }
     ensures last { IsLast result }
     ensures counts { RunCounts result (P.faults port.old) (P.faults port.new) }
 {
-    match run_agent(alloc, conn, words) {
+    match run_agent(alloc, conn, options) {
         Ok(running) => work(rt, running, port),
         Err(NoMemory) => Turn::NoMemory,
     }
@@ -100,15 +104,15 @@ fn work_agent<W: Wait, P: Port>(
 pub fn run_as_agent<W: Wait, P: Port>(
     rt: &W,
     alloc: Global,
-    words: AgentWords,
+    options: AgentOptions,
     port: &mut P,
 ) -> Turn
-    ensures runs { AgentRuns words (P.told port.old) (P.told port.new) result }
+    ensures runs { AgentRuns options (P.told port.old) (P.told port.new) result }
     ensures last { IsLast result }
     ensures counts { RunCounts result (P.faults port.old) (P.faults port.new) }
 {
-    match port.dial(words.server.as_str()) {
-        Dialled::Conn(conn) => work_agent(rt, alloc, conn, &words, port),
+    match port.dial(options.server.as_str()) {
+        Dialled::Conn(conn) => work_agent(rt, alloc, conn, &options, port),
         Dialled::Failed => Turn::ServerLost,
         Dialled::NoMemory => Turn::NoMemory,
     }

@@ -13,24 +13,24 @@ ghost use Rattle.kn_serve.specs.Sides.{client_answers, top_of};
 ghost use Rattle.kn_serve.specs.Programs.{ClientWorks, ClientDials, ClientRuns};
 ghost use Rattle.kn_serve.specs.Working.{IsLast, RunCounts};
 
-use crate::ClientWords;
 use crate::client_side::ClientSide;
 use crate::first::course;
 use crate::serving::work;
 use kn_client_node::ClientNode;
 use kn_io::NoMemory;
 use kn_loop::{Course, Gates, Running, Turn, listen_at};
+use kn_options::ClientOptions;
 use kn_port::{Dialled, Gate, Listened, Port};
 use std::alloc::Global;
 use std::sync::Wait;
 
 /// The client's node on the connection that was dialled.
-fn fresh_node(alloc: Global, conn: u64, words: &ClientWords) -> Result<ClientNode, NoMemory>
-    ensures fresh { IfOk result (λ node. node ≡ client.fresh_node conn words.now.server) }
+fn fresh_node(alloc: Global, conn: u64, options: &ClientOptions) -> Result<ClientNode, NoMemory>
+    ensures fresh { IfOk result (λ node. node ≡ client.fresh_node conn options.now.server) }
     ensures top { IfOk result (λ node. node.top ≡ conn) }
     ensures stays { IfOk result (λ node. client.shuts_of node conn ≡ false) }
 {
-    ClientNode::new(alloc, conn, words.server.as_str())
+    ClientNode::new(alloc, conn, options.server.as_str())
 }
 
 /// Puts a fresh node to work.
@@ -55,22 +55,22 @@ fn run_side(
 fn run_client(
     alloc: Global,
     conn: u64,
-    words: ClientWords,
+    options: ClientOptions,
     gates: Gates,
 ) -> Result<Running<ClientSide>, NoMemory>
     requires drawn { 0 < conn }
-    requires short { length words.address ≤ 1048576 }
-    ensures node { IfOk result (λ r. r.node.node ≡ client.fresh_node conn words.server) }
-    ensures address { IfOk result (λ r. r.node.address ≡ words.address) }
-    ensures watch { IfOk result (λ r. Starts (Some conn) gates 0 (first_course words.tunnels words.turns) r.watch) }
+    requires short { length options.address ≤ 1048576 }
+    ensures node { IfOk result (λ r. r.node.node ≡ client.fresh_node conn options.server) }
+    ensures address { IfOk result (λ r. r.node.address ≡ options.address) }
+    ensures watch { IfOk result (λ r. Starts (Some conn) gates 0 (first_course options.tunnels options.turns) r.watch) }
     ensures ready { IfOk result (λ r. (drawn : ℕ) (told : Option (List Entry)) → conn ≤ drawn → IsAtHand (Some conn) told → Steady r.busy.items r.awake r.watch (client_answers r.node.node) (top_of r.node.node.top r.node.other) drawn told) }
 {
-    let node = fresh_node(alloc, conn, &words)?;
-    let course = course(words.tunnels, words.turns);
+    let node = fresh_node(alloc, conn, &options)?;
+    let course = course(options.tunnels, options.turns);
     let side = ClientSide {
         node,
         other: 0,
-        address: words.address,
+        address: options.address,
         alloc,
     };
     let running = run_side(alloc, conn, side, gates, course)?;
@@ -81,18 +81,18 @@ fn work_client<W: Wait, P: Port>(
     rt: &W,
     alloc: Global,
     conn: u64,
-    words: ClientWords,
+    options: ClientOptions,
     gates: Gates,
     port: &mut P,
 ) -> Turn
     requires drawn { (0 < conn) × (conn ≤ P.last port.old) }
-    requires short { length words.address ≤ 1048576 }
+    requires short { length options.address ≤ 1048576 }
     requires hand { IsAtHand (Some conn) (P.told port.old) }
-    ensures works { ClientWorks words gates conn (P.told port.old) (P.told port.new) result }
+    ensures works { ClientWorks options gates conn (P.told port.old) (P.told port.new) result }
     ensures last { IsLast result }
     ensures counts { RunCounts result (P.faults port.old) (P.faults port.new) }
 {
-    match run_client(alloc, conn, words, gates) {
+    match run_client(alloc, conn, options, gates) {
         Ok(running) => work(rt, running, port),
         Err(NoMemory) => Turn::NoMemory,
     }
@@ -102,17 +102,17 @@ fn work_client<W: Wait, P: Port>(
 fn dial_client<W: Wait, P: Port>(
     rt: &W,
     alloc: Global,
-    words: ClientWords,
+    options: ClientOptions,
     gates: Gates,
     port: &mut P,
 ) -> Turn
-    requires { length words.address ≤ 1048576 }
-    ensures dials { ClientDials words gates (P.told port.old) (P.told port.new) result }
+    requires { length options.address ≤ 1048576 }
+    ensures dials { ClientDials options gates (P.told port.old) (P.told port.new) result }
     ensures last { IsLast result }
     ensures counts { RunCounts result (P.faults port.old) (P.faults port.new) }
 {
-    match port.dial(words.server.as_str()) {
-        Dialled::Conn(conn) => work_client(rt, alloc, conn, words, gates, port),
+    match port.dial(options.server.as_str()) {
+        Dialled::Conn(conn) => work_client(rt, alloc, conn, options, gates, port),
         Dialled::Failed => Turn::ServerLost,
         Dialled::NoMemory => Turn::NoMemory,
     }
@@ -124,17 +124,17 @@ fn dial_client<W: Wait, P: Port>(
 pub fn run_as_client<W: Wait, P: Port>(
     rt: &W,
     alloc: Global,
-    words: ClientWords,
+    options: ClientOptions,
     port: &mut P,
 ) -> Turn
-    requires { length words.address ≤ 1048576 }
-    ensures runs { ClientRuns words (P.told port.old) (P.told port.new) result }
+    requires { length options.address ≤ 1048576 }
+    ensures runs { ClientRuns options (P.told port.old) (P.told port.new) result }
     ensures last { IsLast result }
     ensures counts { RunCounts result (P.faults port.old) (P.faults port.new) }
 {
     let mut gates = Gates::none();
-    match listen_at(port, &mut gates, Gate::Apps, words.listen.as_str()) {
-        Listened::Done => dial_client(rt, alloc, words, gates, port),
+    match listen_at(port, &mut gates, Gate::Apps, options.listen.as_str()) {
+        Listened::Done => dial_client(rt, alloc, options, gates, port),
         Listened::Failed => Turn::BindFault,
         Listened::NoMemory => Turn::NoMemory,
     }

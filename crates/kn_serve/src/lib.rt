@@ -1,4 +1,4 @@
-// The turns of the three programs: their words, the first turn, the later ones, and turns until one ends.
+// The turns of the three programs: their options, the first turn, the later ones, and turns until one ends.
 #![tactic(auto)]
 
 mod agent_begins;
@@ -9,10 +9,8 @@ mod first;
 mod server_begins;
 mod server_side;
 mod serving;
-mod words;
 
 pub use agent_begins::run_as_agent;
 pub use client_begins::run_as_client;
 pub use kn_loop::Turn;
 pub use server_begins::run_as_server;
-pub use words::{AgentWords, ClientWords, ServerWords};

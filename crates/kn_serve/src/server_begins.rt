@@ -14,12 +14,12 @@ ghost use Rattle.kn_serve.specs.Sides as side;
 ghost use Rattle.kn_serve.specs.Programs.{ServerWorks, ServerRuns};
 ghost use Rattle.kn_serve.specs.Working.{IsLast, RunCounts};
 
-use crate::ServerWords;
 use crate::first::course;
 use crate::server_side::ServerSide;
 use crate::serving::work;
 use kn_io::{NoMemory, Text};
 use kn_loop::{Gates, Running, Turn, listen_at};
+use kn_options::ServerOptions;
 use kn_port::{Gate, Listened, Port};
 use kn_server_node::ServerNode;
 use std::alloc::Global;
@@ -67,28 +67,28 @@ fn listen_any<P: Port>(
 }
 
 /// Listens at the gates of a server, in their order.
-fn listen_server<P: Port>(port: &mut P, gates: &mut Gates, words: &ServerWords) -> Listened
+fn listen_server<P: Port>(port: &mut P, gates: &mut Gates, options: &ServerOptions) -> Listened
     requires { gates.old ≡ no_gates }
-    ensures listens { ServerListens words.now (P.told port.old) (P.told port.new) gates.new result }
+    ensures listens { ServerListens options.now (P.told port.old) (P.told port.new) gates.new result }
     ensures last { P.last port.new ≡ P.last port.old }
     ensures count { ListenCounts result (P.faults port.old) (P.faults port.new) }
 {
-    let agents = listen_at(port, gates, Gate::Agents, words.agents.as_str());
-    let clients = listen_after(port, gates, agents, Gate::Clients, words.clients.as_str());
-    listen_any(port, gates, clients, Gate::Connect, &words.connect)
+    let agents = listen_at(port, gates, Gate::Agents, options.agents.as_str());
+    let clients = listen_after(port, gates, agents, Gate::Clients, options.clients.as_str());
+    listen_any(port, gates, clients, Gate::Connect, &options.connect)
 }
 
 fn run_server(
     alloc: Global,
-    words: ServerWords,
+    options: ServerOptions,
     gates: Gates,
 ) -> Result<Running<ServerSide>, NoMemory>
-    ensures node { IfOk result (λ r. r.node.node ≡ server.start words.strategies words.id) }
-    ensures watch { IfOk result (λ r. Starts None gates 0 (first_course words.tunnels words.turns) r.watch) }
+    ensures node { IfOk result (λ r. r.node.node ≡ server.start options.strategies options.id 1) }
+    ensures watch { IfOk result (λ r. Starts None gates 0 (first_course options.tunnels options.turns) r.watch) }
     ensures ready { IfOk result (λ r. (drawn : ℕ) (told : Option (List Entry)) → Steady r.busy.items r.awake r.watch (side.server_answers r.node.node) r.node.node.top drawn told) }
 {
-    let course = course(words.tunnels, words.turns);
-    let node = ServerNode::new(alloc, words.strategies, words.id);
+    let course = course(options.tunnels, options.turns);
+    let node = ServerNode::new(alloc, options.strategies, options.id);
     let side = ServerSide { node, alloc };
     let running = Running::new(alloc, side, None, gates, 0, course)?;
     Ok(running)
@@ -97,15 +97,15 @@ fn run_server(
 fn work_server<W: Wait, P: Port>(
     rt: &W,
     alloc: Global,
-    words: ServerWords,
+    options: ServerOptions,
     gates: Gates,
     port: &mut P,
 ) -> Turn
-    ensures works { ServerWorks words gates (P.told port.old) (P.told port.new) result }
+    ensures works { ServerWorks options gates (P.told port.old) (P.told port.new) result }
     ensures last { IsLast result }
     ensures counts { RunCounts result (P.faults port.old) (P.faults port.new) }
 {
-    match run_server(alloc, words, gates) {
+    match run_server(alloc, options, gates) {
         Ok(running) => work(rt, running, port),
         Err(NoMemory) => Turn::NoMemory,
     }
@@ -116,16 +116,16 @@ fn work_server<W: Wait, P: Port>(
 pub fn run_as_server<W: Wait, P: Port>(
     rt: &W,
     alloc: Global,
-    words: ServerWords,
+    options: ServerOptions,
     port: &mut P,
 ) -> Turn
-    ensures runs { ServerRuns words (P.told port.old) (P.told port.new) result }
+    ensures runs { ServerRuns options (P.told port.old) (P.told port.new) result }
     ensures last { IsLast result }
     ensures counts { RunCounts result (P.faults port.old) (P.faults port.new) }
 {
     let mut gates = Gates::none();
-    match listen_server(port, &mut gates, &words) {
-        Listened::Done => work_server(rt, alloc, words, gates, port),
+    match listen_server(port, &mut gates, &options) {
+        Listened::Done => work_server(rt, alloc, options, gates, port),
         Listened::Failed => Turn::BindFault,
         Listened::NoMemory => Turn::NoMemory,
     }

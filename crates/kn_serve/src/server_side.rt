@@ -29,11 +29,12 @@ fn kind_of(gate: Gate) -> ServerKind
 }
 
 impl ServerSide {
-    /// Takes out the connections that the node stirred, and wakes them.
+    /// Drops the choices that the node made, takes out the connections that it stirred, and wakes them.
     fn wake(&mut self, awake: &mut Awake) -> Result<(), NoMemory>
-        ensures taken { OnOk result (self.new.node ≡ record self.old.node { stirred = [] }) }
+        ensures taken { OnOk result (self.new.node ≡ record self.old.node { choices = []; stirred = [] }) }
         ensures wakes { OnOk result (side.WakesStirred self.old.node.stirred (is_in awake.old) (is_in awake.new)) }
     {
+        self.node.drop_choices(self.alloc);
         while let Some(conn) = self.node.next_stirred() {
             awake.add(conn)?;
         }

@@ -253,18 +253,18 @@ runs_as old [] new es (is, none) = subst (λ x. Heard_as old x new) (sym none) (
 runs_as old (call ∷ calls) new es (mid, first, rest, hears, runs, is) =
     subst (λ x. Heard_as old x new) (sym is) (heard_then old mid new first rest (hears_as old call mid first hears) (runs_as mid calls new rest runs))
 
-pub bytes_stay : (strategies : List Strategy) (id : List ℕ) (calls : List Called) (node : Node) (es : List ServerEvent) → Runs (start strategies id) calls node es
+pub bytes_stay : (strategies : List Strategy) (id : List ℕ) (count : ℕ) (calls : List Called) (node : Node) (es : List ServerEvent) → Runs (start strategies id count) calls node es
     → (node.core ≡ after (server.start strategies) es)
     × ((before : List ServerEvent) (reply : ServerEvent) (later : List ServerEvent) (t : Tunnel) → es ≡ before ++ reply ∷ later → Opens t (turn_at (after (server.start strategies) before) reply)
     → CarriesBoth t (history (server.step (after (server.start strategies) before) reply).state later))
-bytes_stay strategies id calls node es runs = (runs_as (start strategies id) calls node es runs, λ before reply later t is opens. carries strategies before reply later t opens)
+bytes_stay strategies id count calls node es runs = (runs_as (start strategies id count) calls node es runs, λ before reply later t is opens. carries strategies before reply later t opens)
 
 orderly_after : (es : List ServerEvent) (s : State) → IsOrderly s → IsOrderly (after s es)
 orderly_after [] s o = o
 orderly_after (e ∷ es) s o = orderly_after es (server.step s e).state (orderly_kept s e o)
 
-pub cores_orderly : (strategies : List Strategy) (id : List ℕ) (calls : List Called) (node : Node) (es : List ServerEvent) → Runs (start strategies id) calls node es → IsOrderly node.core
-cores_orderly strategies id calls node es runs = subst (λ (s : State). IsOrderly s) (sym (runs_as (start strategies id) calls node es runs)) (orderly_after es (server.start strategies) (orderly_start strategies))
+pub cores_orderly : (strategies : List Strategy) (id : List ℕ) (count : ℕ) (calls : List Called) (node : Node) (es : List ServerEvent) → Runs (start strategies id count) calls node es → IsOrderly node.core
+cores_orderly strategies id count calls node es runs = subst (λ (s : State). IsOrderly s) (sym (runs_as (start strategies id count) calls node es runs)) (orderly_after es (server.start strategies) (orderly_start strategies))
 
 pub others_stay : (old : Node) (call : Called) (new : Node) (es : List ServerEvent) (e : HeldEntry) → IsOrderly old.core → Hears old call new es
     → first_where (is_held_dial e.dial) old.core.held ≡ Some e → Each (IsOfOthers e) es → first_where (is_held_dial e.dial) new.core.held ≡ Some e

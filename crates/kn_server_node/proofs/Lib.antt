@@ -3,6 +3,7 @@ pub mod NoteLemmas
 pub mod StepLemmas
 pub mod TopLemmas
 pub mod CoreLemmas
+pub mod ChoiceLemmas
 pub mod FrontRoomLemmas
 pub mod StirLemmas
 pub mod LeastLemmas

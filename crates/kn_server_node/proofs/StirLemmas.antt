@@ -36,6 +36,7 @@ use Rattle.kn_server_node.specs.declared.loss.Loss.{Loss}
 use Rattle.kn_server_node.specs.declared.loss.Loss.TheVariants.{OfLink, OfFront}
 use Rattle.kn_server_node.specs.declared.place.Place.{Place}
 use Rattle.kn_server_node.specs.declared.node.Node.{Node}
+use Rattle.kn_connect.specs.Statuses.{fault_status}
 use Rattle.kn_server_node.specs.Doors as door
 use Rattle.kn_server_node.specs.Ends as one
 use Rattle.kn_server_node.specs.Ends.{on_carrier, on_door, inlet_in, given, closed, accepted, HearsHead}
@@ -282,7 +283,7 @@ whole_keeps conn target early node =
 came_on_head : (conn : ℕ) (answer : Result ConnectAnswer ConnectError) (node : Node) → Keeps node (head_came conn answer node)
 came_on_head conn (Ok More) node = keeps_same node.ends node.stirred
 came_on_head conn (Ok (Head target early)) node = whole_keeps conn target early node
-came_on_head conn (Err (Fault fault)) node = end_keeps node conn (on_door (door.refused (door.fault_status fault)))
+came_on_head conn (Err (Fault fault)) node = end_keeps node conn (on_door (door.refused (fault_status fault)))
 came_on_head conn (Err NoMemory) node = keeps_same node.ends node.stirred
 
 -- the head of a door heard more bytes

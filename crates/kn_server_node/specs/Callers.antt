@@ -15,6 +15,7 @@ use Rattle.kn_connect.specs.declared.answer.ConnectError.TheVariants.{NoMemory, 
 use Rattle.kn_connect.specs.declared.answer.ConnectAnswer.{ConnectAnswer}
 use Rattle.kn_connect.specs.declared.answer.ConnectAnswer.TheVariants.{More, Head}
 use Rattle.kn_connect.specs.Answers.{IsGiven}
+use Rattle.kn_connect.specs.Statuses.{fault_status}
 use Rattle.kn_server_core.specs.declared.event.ServerEvent.TheVariants.{LinkUp, FrontUp, FrontPacket}
 use Rattle.kn_ends.specs.declared.who.Who.{Who}
 use Rattle.kn_ends.specs.declared.who.Who.TheVariants as who
@@ -55,7 +56,7 @@ has_no_front node = is_full node.ends node.fronts.items node.past_fronts node.co
 -- ---- a call on a stream
 
 abbrev pub answer_fields : Node → Service → List Field
-answer_fields node service = (status_field 200 ∷ content_type ∷ []) ++ server_fields service node.id 1
+answer_fields node service = (status_field 200 ∷ content_type ∷ []) ++ server_fields service node.id node.count
 
 abbrev pub place_of : ℕ → ℕ → Place
 place_of conn s = record { conn = conn; stream = s }
@@ -129,7 +130,7 @@ head_whole conn target early node = if has_no_front node then on_end conn (on_do
 abbrev pub head_came : ℕ → Result ConnectAnswer ConnectError → Node → Node
 head_came conn (Ok More) node = node
 head_came conn (Ok (Head target early)) node = head_whole conn target early node
-head_came conn (Err (Fault fault)) node = on_end conn (on_door (door.refused (door.fault_status fault))) node
+head_came conn (Err (Fault fault)) node = on_end conn (on_door (door.refused (fault_status fault))) node
 head_came conn (Err NoMemory) node = node
 
 -- more bytes of a head

@@ -14,9 +14,9 @@ use Rattle.kn_server_node.specs.Nodes.{on_end, door_waits}
 use Rattle.kn_server_node.specs.Callers.{collect, DoorHears}
 use Rattle.kn_server_node.specs.Steps.{losses_at, Settles}
 
--- no connection yet
-abbrev pub start : List Strategy → List ℕ → Node
-start strategies id = record {
+-- no connection yet, at a server that is one of so many behind its address
+abbrev pub start : List Strategy → List ℕ → ℕ → Node
+start strategies id count = record {
   core = server.start strategies;
   ends = none;
   top = 0;
@@ -29,7 +29,9 @@ start strategies id = record {
   stirred = [];
   handled = 0;
   gone = 0;
+  choices = [];
   id = id;
+  count = count;
 }
 
 -- ---- what the node answers of a connection. One that it does not keep wants nothing, has nothing out, shuts, and is bare

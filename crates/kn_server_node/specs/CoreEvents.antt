@@ -138,7 +138,7 @@ CallsAreHeard = (old : Node) (call : Called) (new : Node) → Handling old call 
 -- Whatever bytes come: from the event at which a tunnel opened, its front is queued what its link sent before the first close
 -- or loss, and its link what its front sent.
 abbrev pub BytesStayInTunnels : Type 0
-BytesStayInTunnels = (strategies : List Strategy) (id : List ℕ) (calls : List Called) (node : Node) (es : List ServerEvent) → Runs (start strategies id) calls node es
+BytesStayInTunnels = (strategies : List Strategy) (id : List ℕ) (count : ℕ) (calls : List Called) (node : Node) (es : List ServerEvent) → Runs (start strategies id count) calls node es
     → (node.core ≡ after (server.start strategies) es)
     × ((before : List ServerEvent) (reply : ServerEvent) (later : List ServerEvent) (t : Tunnel) → es ≡ before ++ reply ∷ later → Opens t (turn_at (after (server.start strategies) before) reply)
     → CarriesBoth t (history (server.step (after (server.start strategies) before) reply).state later))
@@ -150,4 +150,4 @@ OthersEndNoTunnel = (old : Node) (call : Called) (new : Node) (es : List ServerE
 
 -- what comes of calls is orderly
 abbrev pub CoresAreOrderly : Type 0
-CoresAreOrderly = (strategies : List Strategy) (id : List ℕ) (calls : List Called) (node : Node) (es : List ServerEvent) → Runs (start strategies id) calls node es → IsOrderly node.core
+CoresAreOrderly = (strategies : List Strategy) (id : List ℕ) (count : ℕ) (calls : List Called) (node : Node) (es : List ServerEvent) → Runs (start strategies id count) calls node es → IsOrderly node.core

@@ -1,34 +1,14 @@
 -- A connection by CONNECT: what comes of its bytes, and of the packets for its front.
-use Rattle.std.specs.Prelude.{ℕ, ℤ, ◌||◌, ◌&&◌, nat_eq, nat_lt, Bool, true, false, not, List, [], ◌∷◌, ◌++◌, length, drop, codes, Some, None, if◌then◌else◌}
-use Rattle.std.specs.Cmp.Lexicographic.{pointwise}
+use Rattle.std.specs.Prelude.{ℕ, ℤ, ◌||◌, ◌&&◌, nat_lt, Bool, true, false, not, List, [], ◌∷◌, ◌++◌, length, drop, Some, None}
 use Rattle.kn_packet.specs.declared.packet.Packet.{Packet}
 use Rattle.kn_packet.specs.declared.packet.Packet.TheVariants.{DialReq, DialRsp, CloseReq, CloseRsp, Data, DialCls, Drain, Other}
-use Rattle.kn_connect.specs.declared.answer.ConnectFault.{ConnectFault}
-use Rattle.kn_connect.specs.declared.answer.ConnectFault.TheVariants.{BadHead, NotConnect, TooLong}
 use Rattle.kn_connect.specs.Replies.{reply_text}
+use Rattle.kn_connect.specs.Statuses.{error_status}
 use Rattle.kn_server_node.specs.declared.door.Door.{Door}
 use Rattle.kn_ends.specs.Queues.{is_empty}
 
 abbrev pub fresh_door : Door
 fresh_door = record { head = []; front = None; dial = None; early = []; out = []; status = 0; shuts = false; lost = false }
-
--- ---- statuses of refusals (RFC 9110, section 15)
-
-abbrev pub fault_status : ConnectFault → ℕ
-fault_status BadHead = 400
-fault_status NotConnect = 405
-fault_status TooLong = 431
-
-abbrev pub is_text : List ℕ → List ℕ → Bool
-is_text a b = pointwise nat_eq a b
-
--- the status by the error with which a dial is refused
-abbrev pub error_status : List ℕ → ℕ
-error_status error =
-    if is_text error (codes "bad address") then 400
-    else (if is_text error (codes "no agent available") then 503
-    else (if is_text error (codes "dial numbers used up") then 503
-    else 502))
 
 -- ---- what changes at a door
 

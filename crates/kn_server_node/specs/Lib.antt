@@ -1,6 +1,7 @@
 pub mod Losing
 pub mod Doors
 pub mod Ends
+pub mod Choices
 pub mod Nodes
 pub mod Callers
 pub mod Steps
@@ -11,4 +12,6 @@ pub mod Fronts
 pub mod Least
 pub mod Tasks
 pub mod CoreEvents
+pub mod ChoiceRuns
 pub mod FrontRooms
+pub mod Missing

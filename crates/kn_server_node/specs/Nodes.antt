@@ -26,6 +26,7 @@ use Rattle.kn_server_node.specs.declared.node.Node.{Node}
 use Rattle.kn_server_node.specs.Doors as door
 use Rattle.kn_server_node.specs.Ends.{given, closed, inlet_in, queued_in, is_door}
 use Rattle.kn_ends.specs.Queues.{is_empty}
+use Rattle.kn_server_node.specs.Choices.{chosen_at, noted}
 use Rattle.kn_server_node.specs.Losing.{with_loss}
 
 -- the connection of a number changes, and is stirred
@@ -218,8 +219,9 @@ abbrev pub outputs : Node → List ServerOut → Node
 outputs node [] = node
 outputs node (o ∷ os) = outputs (output node o) os
 
--- one event of the core, and its outputs in their order; the losses that follow from it come before what was to be done already
+-- one event of the core, and its outputs in their order; the losses that follow from it come before what was to be done
+-- already, and the choice that it comes to is noted
 unfoldable pub event : ServerEvent → Node → Node
 event e node =
     let after = outputs (record node { core = (server.step node.core e).state; todo = [] }) (server.step node.core e).outs in
-    record after { todo = after.todo ++ node.todo }
+    record after { todo = after.todo ++ node.todo; choices = noted (chosen_at node e) after.choices }

@@ -41,7 +41,7 @@ fn accept(
 ) -> Result<(), NoMemory>
     ensures { OnOk result (node.new ≡ spec.answered_call conn stream who service node.old) }
 {
-    let head = answer_head(alloc, service, node.id.as_str(), 1)?;
+    let head = answer_head(alloc, service, node.id.as_str(), node.count)?;
     node.stirred.add(conn)?;
     node.ends.accept(alloc, conn, stream, who, &head)?;
     collect(alloc, node, conn)

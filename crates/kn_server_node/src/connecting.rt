@@ -10,12 +10,11 @@ ghost use Rattle.kn_server_node.specs.Nodes.{on_end};
 ghost use Rattle.kn_server_node.specs.Ends.{on_door};
 ghost use Rattle.kn_server_node.specs.Doors as door;
 
-use crate::doors::fault_status;
 use crate::limits::{counting, has_no_front};
 use crate::node::Node;
 use crate::outputs::event;
 use crate::place::Place;
-use kn_connect::{ConnectAnswer, ConnectError};
+use kn_connect::{ConnectAnswer, ConnectError, fault_status};
 use kn_io::{Blob, NoMemory, Text};
 use kn_packet::Packet;
 use kn_server_core::ServerEvent;

@@ -6,7 +6,7 @@ ghost use Rattle.kn_server_node.specs.Doors as spec;
 ghost use Rattle.kn_ends.specs.Queues.{is_empty};
 
 use crate::door::Door;
-use kn_connect::{ConnectFault, ConnectFront, reply};
+use kn_connect::{ConnectFront, error_status, reply};
 use kn_h2_state::ByteQueue;
 use kn_io::{Blob, NoMemory};
 use kn_packet::Packet;
@@ -25,34 +25,6 @@ pub fn fresh(alloc: Global) -> Door
         status: 0,
         shuts: false,
         lost: false,
-    }
-}
-
-/// The status that a faulty head is refused with.
-pub fn fault_status(fault: ConnectFault) -> u32
-    ensures status { result ≡ spec.fault_status fault }
-    ensures reply { IsReplyStatus result }
-{
-    match fault {
-        ConnectFault::BadHead => 400,
-        ConnectFault::NotConnect => 405,
-        ConnectFault::TooLong => 431,
-    }
-}
-
-/// The status by the error with which a dial is refused.
-fn error_status(error: &str) -> u32
-    ensures status { result ≡ spec.error_status error.now }
-    ensures reply { IsReplyStatus result }
-{
-    if error == "bad address" {
-        400
-    } else if error == "no agent available" {
-        503
-    } else if error == "dial numbers used up" {
-        503
-    } else {
-        502
     }
 }
 

@@ -1,5 +1,6 @@
 //! Laws over what a node does, whatever bytes come.
 
+ghost use Rattle.kn_server_node.specs.ChoiceRuns.{CallsNoteChoices};
 ghost use Rattle.kn_server_node.specs.FrontRooms.{EventsDropNone, StepsAreInTime};
 ghost use Rattle.kn_server_node.specs.CoreEvents.{CallsAreHeard, BytesStayInTunnels, OthersEndNoTunnel, CoresAreOrderly};
 
@@ -7,6 +8,11 @@ ghost use Rattle.kn_server_node.specs.CoreEvents.{CallsAreHeard, BytesStayInTunn
 /// call, head and loss its own.
 pub fn calls_are_heard()
     ensures { CallsAreHeard }
+{}
+
+/// A call notes exactly the choices of links that the core makes at the events that it hears, in order, and each once.
+pub fn calls_note_their_choices()
+    ensures { CallsNoteChoices }
 {}
 
 /// Over all calls from the start: what is queued to the front of a tunnel is what came for it on the stream of the link

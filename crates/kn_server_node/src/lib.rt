@@ -5,7 +5,10 @@
 mod at;
 mod callers;
 mod candidate;
+mod choices;
 mod choosing;
+mod choosing_links;
+mod chosen;
 mod connecting;
 mod connections;
 mod door;
@@ -32,13 +35,15 @@ mod settling;
 mod standing;
 mod task;
 
+pub use choices::Choices;
+pub use chosen::Chosen;
 pub use connections::Connections;
 pub use door::Door;
 pub use end::End;
 pub use kind::ServerKind;
 pub use laws::{
     bad_links_end_no_other_tunnel, bytes_stay_in_tunnels, calls_are_heard,
-    no_packet_for_a_front_is_dropped,
+    calls_note_their_choices, no_packet_for_a_front_is_dropped,
 };
 pub use loss::Loss;
 pub use losses::Losses;

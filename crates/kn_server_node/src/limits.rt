@@ -1,6 +1,6 @@
 //! How many links and fronts there may be.
 
-ghost use Rattle.std.specs.Prelude.{◌≡◌, ◌≤◌, length, filter, IfOk};
+ghost use Rattle.std.specs.Prelude.{◌≡◌, ◌≤◌, nat_le, length, filter, IfOk};
 ghost use Rattle.kn_rising.specs.Members.{at};
 ghost use Rattle.kn_server_node.specs.Callers as spec;
 
@@ -43,10 +43,17 @@ fn count_of(ends: &Connections, places: &[Place]) -> usize
     count
 }
 
+/// So many are the most.
+fn has_most(count: usize, most: usize) -> bool
+    ensures { result ≡ nat_le most count }
+{
+    most <= count
+}
+
 fn is_full(ends: &Connections, places: &[Place], past: &[Place], top: u64, most: usize) -> bool
     ensures { result ≡ spec.is_full ends.now places.now past.now top most }
 {
-    most <= count_of(ends, places) + count_of(ends, past) || LAST_NUMBER <= top
+    has_most(count_of(ends, places) + count_of(ends, past), most) || LAST_NUMBER <= top
 }
 
 /// No link is accepted.

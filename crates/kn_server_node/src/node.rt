@@ -1,3 +1,4 @@
+use crate::choices::Choices;
 use crate::connections::Connections;
 use crate::losses::Losses;
 use crate::place::Place;
@@ -31,6 +32,10 @@ pub struct Node {
     pub handled: u64,
     /// How many fronts ended.
     pub gone: u64,
+    /// Choices of links that were not handed out yet, the first in front.
+    pub choices: Choices,
     /// The server's own id.
     pub id: Text,
+    /// How many servers stand behind the address, as agents are told.
+    pub count: u32,
 }

@@ -7,6 +7,7 @@ ghost use Rattle.kn_grpc.specs.Packets.{framed};
 ghost use Rattle.kn_ends.specs.Carriers.{queue_bytes, deafened, on_inlet, after_read, taken_from, finish_stream, reset_stream, with_end, with_reset, fed_with, without_events};
 ghost use Rattle.kn_server_node.specs.declared.end.End.TheVariants.{Streams};
 ghost use Rattle.kn_server_node.specs.Doors as door_spec;
+ghost use Rattle.kn_server_node.specs.Missing as missing_bytes;
 ghost use Rattle.kn_server_node.specs.Ends as spec;
 
 use crate::door::Door;
@@ -325,6 +326,17 @@ pub fn is_bare(end: &End) -> bool
     match end {
         End::Streams { carrier, .. } => kn_ends::is_bare(carrier),
         End::Connect { door } => door.early.is_empty(),
+    }
+}
+
+/// How many bytes of it are missing to the end of what is under way on it.
+pub fn missing(end: &End) -> usize
+    ensures value { result ≡ missing_bytes.missing (Some end.now) }
+    ensures some { 1 ≤ result }
+{
+    match end {
+        End::Streams { carrier, .. } => kn_ends::missing(carrier),
+        End::Connect { .. } => 1,
     }
 }
 

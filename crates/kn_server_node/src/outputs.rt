@@ -1,12 +1,13 @@
 //! What the core gives out, and what comes of it.
 
-ghost use Rattle.std.specs.Prelude.{◌≡◌, OnOk, IfOk};
+ghost use Rattle.std.specs.Prelude.{◌≡◌, nat_lt, OnOk, IfOk};
 ghost use Rattle.kn_rising.specs.Members.{at};
 ghost use Rattle.kn_server_core.specs.Sound.{IsNext};
 ghost use Rattle.kn_server_core.specs.Server as server;
 ghost use Rattle.kn_server_node.specs.Ends.{given, closed, is_door};
 ghost use Rattle.kn_server_node.specs.Nodes as spec;
 
+use crate::choosing_links::chosen_at;
 use crate::doors::ends_front;
 use crate::loss::Loss;
 use crate::losses::Losses;
@@ -56,10 +57,17 @@ fn is_data(packet: &Packet) -> bool
     }
 }
 
+/// So many bytes are more than a link may have waiting.
+fn is_full(queued: usize) -> bool
+    ensures { result ≡ nat_lt 5242880 queued }
+{
+    queued > FULL_QUEUE
+}
+
 fn is_too_long(node: &Node, link: u64, packet: &Packet) -> bool
     ensures { result ≡ spec.is_too_long node.now link packet.now }
 {
-    !is_data(packet) && link_queue(node, link) > FULL_QUEUE
+    !is_data(packet) && is_full(link_queue(node, link))
 }
 
 /// A packet goes to a link.
@@ -202,14 +210,16 @@ fn step_core(alloc: Global, node: &mut Node, event: ServerEvent) -> Result<Vec<S
     Ok(outs)
 }
 
-/// One event of the core, and what it gives out.
+/// One event of the core, what it gives out, and the choice that it comes to.
 #[tactic(auto, unfolding(crate::specs::Nodes::event))]
 pub fn event(alloc: Global, node: &mut Node, event: ServerEvent) -> Result<(), NoMemory>
     requires next { IsNext node.old.core event }
     ensures { OnOk result (node.new ≡ spec.event event node.old) }
 {
+    let chosen = chosen_at(alloc, node, &event)?;
     let later = node.todo.take(alloc);
     let outs = step_core(alloc, node, event)?;
     give_all(alloc, node, outs)?;
-    node.todo.append(later)
+    node.todo.append(later)?;
+    node.choices.note(chosen)
 }

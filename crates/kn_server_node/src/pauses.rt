@@ -64,11 +64,18 @@ fn front_queue(node: &Node, front: u64) -> usize
     queue_at(node, place_at(&node.fronts, front))
 }
 
+/// Packets wait while so many bytes wait.
+fn is_long(queued: usize) -> bool
+    ensures { result ≡ spec.is_long queued }
+{
+    queued > LONG_QUEUE
+}
+
 fn front_is_long(node: &Node, front: Option<u64>) -> bool
     ensures { result ≡ spec.front_is_long node.now front }
 {
     match front {
-        Some(front) => front_queue(node, front) > LONG_QUEUE,
+        Some(front) => is_long(front_queue(node, front)),
         None => false,
     }
 }
@@ -77,7 +84,7 @@ fn waits_for_link(node: &Node, entry: Option<HeldEntry>) -> bool
     ensures { result ≡ spec.waits_for_link node.now entry }
 {
     match entry {
-        Some(entry) => link_queue(node, entry.link) > LONG_QUEUE,
+        Some(entry) => is_long(link_queue(node, entry.link)),
         None => false,
     }
 }
@@ -150,7 +157,7 @@ fn front_data_waits(node: &Node, front: u64, packet: &PacketRef<'_>) -> bool
 fn front_waits(node: &Node, front: u64, packet: &PacketRef<'_>) -> bool
     ensures { result ≡ spec.front_waits node.now front (message packet.now) }
 {
-    front_queue(node, front) > LONG_QUEUE || front_data_waits(node, front, packet)
+    is_long(front_queue(node, front)) || front_data_waits(node, front, packet)
 }
 
 fn link_waits(node: &Node, link: u64, packet: &PacketRef<'_>) -> bool
@@ -213,7 +220,7 @@ pub fn door_waits(node: &Node, door: &Door) -> bool
 fn early_goes(node: &Node, door: &Door) -> bool
     ensures { result ≡ spec.early_goes node.now door.now }
 {
-    door.dial.is_some() && (!(door.out.len() > LONG_QUEUE) && !door_waits(node, door))
+    door.dial.is_some() && (!is_long(door.out.len()) && !door_waits(node, door))
 }
 
 fn door_can(node: &Node, door: &Door) -> bool

@@ -7,8 +7,11 @@ ghost use Rattle.kn_server_node.specs.Nodes.{on_end};
 ghost use Rattle.kn_server_node.specs.Stirs.{Stirs};
 ghost use Rattle.kn_server_node.specs.Calls as spec;
 ghost use Rattle.kn_server_node.specs.Calls.{Opened, Bytes, Took, Lost, Does, Handling};
+ghost use Rattle.kn_server_node.specs.Missing.{missing_of};
 
 use crate::callers::collect;
+use crate::choices::Choices;
+use crate::chosen::Chosen;
 use crate::connecting::head_bytes;
 use crate::connections::Connections;
 use crate::end::End;
@@ -107,9 +110,18 @@ fn wants_on(node: &Node, end: &End) -> bool
 }
 
 impl ServerNode {
-    /// A server without connections. Takes no memory.
+    /// A server without connections, alone behind its address. Takes no memory.
     pub fn new(alloc: Global, strategies: Strategies, server_id: Text) -> ServerNode
-        ensures start { result ≡ spec.start strategies server_id }
+        ensures start { result ≡ spec.start strategies server_id 1 }
+        ensures top { result.top ≡ 0 }
+    {
+        ServerNode::counted(alloc, strategies, server_id, 1)
+    }
+
+    /// A server without connections, one of `count` behind its address: its answers to agents say so. Takes no memory.
+    pub fn counted(alloc: Global, strategies: Strategies, server_id: Text, count: u32) -> ServerNode
+        requires { (1 ≤ count) × (count ≤ 100) }
+        ensures start { result ≡ spec.start strategies server_id count }
         ensures top { result.top ≡ 0 }
     {
         ServerNode {
@@ -126,7 +138,9 @@ impl ServerNode {
                 stirred: Stirred::new(alloc),
                 handled: 0,
                 gone: 0,
+                choices: Choices::new(alloc),
                 id: server_id,
+                count,
             },
         }
     }
@@ -189,6 +203,21 @@ impl ServerNode {
         self.node.stirred.pop()
     }
 
+    /// Hands out the first of the choices of links that the core made and that were not handed out or dropped. Takes no
+    /// memory.
+    pub fn next_choice(&mut self) -> Option<Chosen>
+        ensures { MatchOption result ((self.old.choices ≡ []) × (self.new ≡ self.old)) (λ chosen. self.old ≡ record self.new { choices = chosen ∷ self.new.choices }) }
+    {
+        self.node.choices.pop()
+    }
+
+    /// Drops what `next_choice` would hand out. Takes no memory.
+    pub fn drop_choices(&mut self, alloc: Global)
+        ensures { self.new ≡ record self.old { choices = [] } }
+    {
+        self.node.choices = Choices::new(alloc);
+    }
+
     /// Bytes of the connection are wanted.
     pub fn wants(&self, conn: u64) -> bool
         ensures { result ≡ spec.wants_of self.now conn }
@@ -226,6 +255,19 @@ impl ServerNode {
         match self.node.ends.get(conn) {
             Some(end) => one::is_bare(end),
             None => true,
+        }
+    }
+
+    /// How many bytes are missing on the connection to the end of the preface, of the head of a frame, or of its
+    /// payload. Of one that speaks CONNECT, that has failed, or that is not kept, each byte stands by itself: it is 1.
+    /// Takes no memory.
+    pub fn missing(&self, conn: u64) -> usize
+        ensures value { result ≡ missing_of self.now conn }
+        ensures some { 1 ≤ result }
+    {
+        match self.node.ends.get(conn) {
+            Some(end) => one::missing(end),
+            None => 1,
         }
     }
 

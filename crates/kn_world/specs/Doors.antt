@@ -1,50 +1,15 @@
 -- Apps by CONNECT: the server's packets reach them at once, as a reply, as bytes and as the end.
-use Rattle.std.specs.Prelude.{ℕ, ◌-◌, ◌==◌, ◌&&◌, ◌||◌, not, nat_eq, min, Bool, true, false, List, [], ◌∷◌, ◌++◌, length, codes, if◌then◌else◌}
-use Rattle.std.specs.Cmp.Lexicographic.{pointwise}
+use Rattle.std.specs.Prelude.{ℕ, ◌-◌, ◌==◌, ◌&&◌, ◌||◌, not, min, Bool, true, false, List, [], ◌∷◌, ◌++◌, length, if◌then◌else◌}
 use Rattle.kn_packet.specs.declared.packet.Packet.{Packet}
 use Rattle.kn_packet.specs.declared.packet.Packet.TheVariants.{DialReq, DialRsp, CloseReq, CloseRsp, Data, DialCls, Drain, Other}
-use Rattle.kn_connect.specs.declared.answer.ConnectFault.{ConnectFault}
-use Rattle.kn_connect.specs.declared.answer.ConnectFault.TheVariants.{BadHead, NotConnect, TooLong}
+use Rattle.kn_connect.specs.Replies.{status_and_reason}
+use Rattle.kn_connect.specs.Statuses.{error_status, reply_length}
 use Rattle.kn_world.specs.declared.parts.App.{App}
 use Rattle.kn_world.specs.declared.parts.Door.{Door}
 use Rattle.kn_world.specs.declared.parts.Stage.{Stage}
 use Rattle.kn_world.specs.declared.parts.Stage.TheVariants.{Dialling, Open, Refused, Ended}
 use Rattle.kn_world.specs.Numbers.{signed}
 use Rattle.kn_world.specs.Sides as side
-
--- ---- statuses of refusals (RFC 9110, section 15)
-abbrev pub fault_status : ConnectFault → ℕ
-fault_status BadHead = 400
-fault_status NotConnect = 405
-fault_status TooLong = 431
-
-abbrev pub is_text : List ℕ → List ℕ → Bool
-is_text a b = pointwise nat_eq a b
-
-abbrev pub error_status : List ℕ → ℕ
-error_status error =
-    if is_text error (codes "bad address") then 400
-    else if is_text error (codes "no agent available") then 503
-    else if is_text error (codes "dial numbers used up") then 503
-    else 502
-
-abbrev pub refusal_text : ℕ → List ℕ
-refusal_text status =
-    if status == 400 then codes "400 Bad Request"
-    else if status == 405 then codes "405 Method Not Allowed"
-    else if status == 431 then codes "431 Request Header Fields Too Large"
-    else if status == 502 then codes "502 Bad Gateway"
-    else codes "503 Service Unavailable"
-
--- how many bytes a reply has
-abbrev pub reply_len : ℕ → ℕ
-reply_len status =
-    if status == 200 then 39
-    else if status == 400 then 66
-    else if status == 405 then 89
-    else if status == 431 then 86
-    else if status == 502 then 66
-    else 74
 
 -- ---- bytes for the app to take: first those of the reply
 abbrev pub is_empty : App → Bool
@@ -87,12 +52,12 @@ took_freely false a = took_all a
 -- ---- the server's packets
 abbrev pub refused : ℕ → App → App
 refused status a =
-    let b : App = record a { error = refusal_text status; stage = Refused; door = record a.door { early = []; reply = reply_len status } } in
+    let b : App = record a { error = status_and_reason status; stage = Refused; door = record a.door { early = []; reply = reply_length status } } in
     took_freely b.side.held b
 
 abbrev pub opened : App → App
 opened a =
-    let b : App = record a { stage = Open; door = with_reply 39 a.door } in
+    let b : App = record a { stage = Open; door = with_reply (reply_length 200) a.door } in
     took_freely b.side.held b
 
 abbrev pub answered : List ℕ → App → App

@@ -12,7 +12,7 @@ use Rattle.kn_world.specs.declared.parts.App.{App}
 use Rattle.kn_world.specs.declared.parts.Owner.TheVariants as owner
 use Rattle.kn_world.specs.declared.state.State.{State}
 use Rattle.kn_world.specs.Apps as apps
-use Rattle.kn_world.specs.Doors.{fault_status}
+use Rattle.kn_connect.specs.Statuses.{fault_status}
 use Rattle.kn_world.specs.Handing.{settles}
 use Rattle.kn_world.specs.Numbers.{nth, put_nth, change}
 use Rattle.kn_world.specs.ServerSteps.{step}

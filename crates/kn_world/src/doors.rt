@@ -1,70 +1,23 @@
 //! Apps by CONNECT, as the server's packets reach them at once.
 ghost use Rattle.std.specs.Prelude.{◌≡◌, ◌+◌, length, OnOk};
 ghost use Rattle.kn_connect.specs.Replies.{IsReplyStatus};
+ghost use Rattle.kn_connect.specs.Statuses.{reply_length};
 ghost use Rattle.kn_world.specs.Doors as spec;
 
 use crate::numbers::signed;
 use crate::packets::Packets;
 use crate::parts::{App, Stage};
-use kn_connect::{ConnectFault, reply};
+use kn_connect::{error_status, reply_len, status_line};
 use kn_io::{Blob, NoMemory, Text};
 use kn_packet::Packet;
 use std::alloc::Global;
 
-/// The reply to a head that is none.
-pub fn fault_status(fault: ConnectFault) -> u32
-    ensures status { result ≡ spec.fault_status fault }
-    ensures reply { IsReplyStatus result }
-{
-    match fault {
-        ConnectFault::BadHead => 400,
-        ConnectFault::NotConnect => 405,
-        ConnectFault::TooLong => 431,
-    }
-}
-
-/// The reply to a dial that was refused for this reason.
-fn error_status(error: &str) -> u32
-    ensures status { result ≡ spec.error_status error.now }
-    ensures reply { IsReplyStatus result }
-{
-    if error == "bad address" {
-        400
-    } else if error == "no agent available" {
-        503
-    } else if error == "dial numbers used up" {
-        503
-    } else {
-        502
-    }
-}
-
-/// The status and the reason of a refusal.
-fn refusal_text(status: u32) -> &'static str
-    ensures { result.now ≡ spec.refusal_text status }
-{
-    match status {
-        400 => "400 Bad Request",
-        405 => "405 Method Not Allowed",
-        431 => "431 Request Header Fields Too Large",
-        502 => "502 Bad Gateway",
-        _ => "503 Service Unavailable",
-    }
-}
-
-/// How many bytes the reply of a status has.
-fn reply_len(status: u32) -> u8
+// How many bytes the reply of a status has.
+fn reply_count(status: u32) -> u8
     requires { IsReplyStatus status }
-    ensures { result ≡ spec.reply_len status }
+    ensures { result ≡ reply_length status }
 {
-    match status {
-        200 => 39,
-        400 => 66,
-        405 => 89,
-        431 => 86,
-        502 => 66,
-        _ => 74,
-    }
+    reply_len(status) as u8
 }
 
 fn is_empty(app: &App) -> bool
@@ -141,10 +94,10 @@ pub fn refuse(alloc: Global, app: &mut App, status: u32) -> Result<(), NoMemory>
     requires { IsReplyStatus status }
     ensures { OnOk result (app.new ≡ spec.refused status app.old) }
 {
-    app.error = Text::of(alloc, refusal_text(status))?;
+    app.error = Text::of(alloc, status_line(status))?;
     app.stage = Stage::Refused;
     app.door.early = Packets::new(alloc);
-    app.door.reply = reply_len(status);
+    app.door.reply = reply_count(status);
     take_freely(app);
     Ok(())
 }
@@ -153,7 +106,7 @@ fn open(app: &mut App)
     ensures { app.new ≡ spec.opened app.old }
 {
     app.stage = Stage::Open;
-    app.door.reply = 39;
+    app.door.reply = reply_count(200);
     take_freely(app);
 }
 
@@ -333,23 +286,5 @@ pub fn keep_early(alloc: Global, app: &mut App, early: Blob) -> Result<(), NoMem
         Stage::Open => keep_some(alloc, app, early),
         Stage::Refused => Ok(()),
         Stage::Ended => Ok(()),
-    }
-}
-
-#[cfg(test)]
-mod tests {
-    use super::reply_len;
-    use kn_connect::reply;
-    use std::test::Fail;
-
-    #[test]
-    fn replies_have_their_lengths(rt: HostRuntime) -> Result<(), Fail> {
-        assert_eq!(rt; reply(200).len(), 39);
-        assert_eq!(rt; reply(400).len(), reply_len(400) as usize);
-        assert_eq!(rt; reply(405).len(), reply_len(405) as usize);
-        assert_eq!(rt; reply(431).len(), reply_len(431) as usize);
-        assert_eq!(rt; reply(502).len(), reply_len(502) as usize);
-        assert_eq!(rt; reply(503).len(), reply_len(503) as usize);
-        Ok(())
     }
 }

@@ -5,14 +5,13 @@ ghost use Rattle.kn_world.specs.Numbers.{nth};
 ghost use Rattle.kn_world.specs.Hearing as spec;
 
 use crate::apps;
-use crate::doors::fault_status;
 use crate::handing::settle;
 use crate::numbered::Numbered;
 use crate::parts::{App, Owner};
 use crate::pieces::{head_of, rest_of};
 use crate::server_steps::step;
 use crate::state::State;
-use kn_connect::{ConnectAnswer, ConnectError};
+use kn_connect::{ConnectAnswer, ConnectError, fault_status};
 use kn_io::{Blob, NoMemory, Text};
 use kn_packet::Packet;
 use kn_server_core::ServerEvent;

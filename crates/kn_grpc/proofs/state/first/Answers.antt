@@ -1,4 +1,4 @@
-use Rattle.std.proofs.Common.{◌≡◌, Some, None, sym, ap, ◌∙◌}
+use Rattle.std.proofs.Common.{◌≡◌, Some, sym, ap, ◌∙◌}
 use Rattle.kn_grpc.specs.Readers.{reason_in}
 use Rattle.kn_grpc.proofs.Feeding.{bad_held}
 use Rattle.kn_grpc.proofs.state.first.Goals as goal

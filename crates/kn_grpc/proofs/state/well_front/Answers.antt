@@ -1,4 +1,4 @@
-use Rattle.std.proofs.Common.{◌≡◌, ◌<◌, ◌≤◌, length, [], arith, sym, ap, ◌∙◌}
+use Rattle.std.proofs.Common.{◌≡◌, length, [], arith, sym, ap, ◌∙◌}
 use Rattle.kn_grpc.specs.Messages.{length_of}
 use Rattle.kn_grpc.specs.Readers.{Whole}
 use Rattle.kn_grpc.proofs.Feeding.{less_head, whole_held, not_all_held, head_within}

@@ -10,7 +10,7 @@ pub returns-clause-node : goal.returns-clause-node
 returns-clause-node c = c.in_ok-running.ensures.node ∙ c.in_ok-node.ensures.started
 
 pub returns-clause-watch : goal.returns-clause-watch
-returns-clause-watch c = subst (λ k. Begins c.args.conn true true (bare_watch no_gates c.args.words.now.drain k) c.in_ok-running.running.watch) c.course-course.ensures c.in_ok-running.ensures.watch
+returns-clause-watch c = subst (λ k. Begins c.args.conn true true (bare_watch no_gates c.args.options.now.drain k) c.in_ok-running.running.watch) c.course-course.ensures c.in_ok-running.ensures.watch
 
 pub returns-clause-ready : goal.returns-clause-ready
 returns-clause-ready c = c.in_ok-running.ensures.ready

@@ -11,5 +11,5 @@ returns-in-Done-clause-runs g c = (
   listened.Done,
   g.P.Port.told c.listen_at.new.port,
   subst (λ a. Tells (g.P.Port.told c.args.port.now) (g.P.Port.told c.listen_at.new.port) (listen_entries gate.Apps a listened.Done)) c.as_str.ensures c.in-Done.ensures.told,
-  subst (λ gs. ClientDials c.args.words gs (g.P.Port.told c.listen_at.new.port) (g.P.Port.told c.dial_client.new.port) c.dial_client.result) (c.in-Done.ensures.gates ∙ ap (λ gs. gate_listened gate.Apps listened.Done gs) c.none-gates.ensures) c.dial_client.ensures.dials,
+  subst (λ gs. ClientDials c.args.options gs (g.P.Port.told c.listen_at.new.port) (g.P.Port.told c.dial_client.new.port) c.dial_client.result) (c.in-Done.ensures.gates ∙ ap (λ gs. gate_listened gate.Apps listened.Done gs) c.none-gates.ensures) c.dial_client.ensures.dials,
 )

@@ -7,7 +7,7 @@ use Rattle.kn_serve.proofs.ListenLemmas.{server_listens, counts_then}
 use Rattle.kn_serve.proofs.server_begins.listen_server.Goals as goal
 
 pub returns-clause-listens : goal.returns-clause-listens
-returns-clause-listens g c = server_listens c.args.words.now _ _ _ _ _ _ _ _ _ _ _ _
+returns-clause-listens g c = server_listens c.args.options.now _ _ _ _ _ _ _ _ _ _ _ _
     (subst (λ a. Tells (g.P.Port.told c.args.port.now) (g.P.Port.told c.listen_at-agents.new.port) (listen_entries gate.Agents a c.listen_at-agents.result)) c.as_str.ensures c.listen_at-agents.ensures.told)
     (c.listen_at-agents.ensures.gates ∙ ap (λ gs. gate_listened gate.Agents c.listen_at-agents.result gs) c.requires)
     (subst (λ a. Tells (g.P.Port.told c.listen_at-agents.new.port) (g.P.Port.told c.listen_after-clients.new.port) (entries_after c.listen_at-agents.result gate.Clients a c.listen_after-clients.ensures.told.0)) c.as_str-2.ensures c.listen_after-clients.ensures.told.1)

@@ -1,0 +1,10 @@
+pub mod GoLemmas
+pub mod ChangeLemmas
+pub mod FrontBaseLemmas
+pub mod CalmLemmas
+pub mod FrontRunLemmas
+pub mod PlacedLemmas
+pub mod SoundLemmas
+pub mod StepLemmas
+pub mod CallLemmas
+pub mod HoldLemmas

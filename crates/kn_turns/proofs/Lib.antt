@@ -1,0 +1,10 @@
+pub mod AgentTurns
+pub mod AppTurns
+pub mod ClientTurns
+pub mod DestTurns
+pub mod DoorTurns
+pub mod Runs
+pub mod ServerLosses
+pub mod EndLosses
+pub mod AllTurns
+pub mod Promised
