@@ -2,6 +2,8 @@
 use Rattle.std.proofs.Common.{◌≡◌, ◌++◌, ◌==◌, ◌&&◌, ◌-◌, ℕ, suc, Bool, true, false, cond, List, [], ◌∷◌, length, min, take, drop, Option, None, Some, Ok, refl, sym, ap, ◌∙◌, subst, append_assoc, take-append-drop, eqb-true, arith, ◌≤◌}
 use Rattle.std.specs.Option.{option_map}
 use Rattle.kn_connect.specs.Answers.{Answers}
+use Rattle.kn_connect.specs.Replies.{status_and_reason}
+use Rattle.kn_connect.specs.Statuses.{error_status, reply_length}
 use Rattle.kn_connect.specs.declared.answer.ConnectAnswer.TheVariants.{Head}
 use Rattle.kn_packet.specs.declared.packet.Packet.{Packet}
 use Rattle.kn_packet.specs.declared.packet.Packet.TheVariants.{CloseReq, CloseRsp, Data, DialCls, DialReq, DialRsp, Drain, Other}
@@ -76,17 +78,17 @@ freely_own false bytes a it = emptied_own bytes (record a { door = door.with_rep
 -- ---- what it hears
 pub refused_own : (status : ℕ) (bytes : List ℕ) (a : App) → Own bytes a → Own bytes (door.refused status a)
 refused_own status bytes a it =
-    let b : App = record a { error = door.refusal_text status; stage = Refused; door = record a.door { early = []; reply = door.reply_len status } } in
+    let b : App = record a { error = status_and_reason status; stage = Refused; door = record a.door { early = []; reply = reply_length status } } in
     freely_own b.side.held bytes b (with_stage Refused bytes a (gone (is_at_door a.stage)) it)
 
 opened_own : (bytes : List ℕ) (a : App) → is_at_door a.stage ≡ true → Own bytes a → Own bytes (door.opened a)
 opened_own bytes a here it =
-    let b : App = record a { stage = Open; door = door.with_reply 39 a.door } in
+    let b : App = record a { stage = Open; door = door.with_reply (reply_length 200) a.door } in
     freely_own b.side.held bytes b (with_stage Open bytes a (λ e. here) it)
 
 answered_own : (error bytes : List ℕ) (a : App) → is_at_door a.stage ≡ true → Own bytes a → Own bytes (door.answered error a)
 answered_own [] bytes a here it = opened_own bytes a here it
-answered_own (x ∷ xs) bytes a here it = refused_own (door.error_status (x ∷ xs)) bytes a it
+answered_own (x ∷ xs) bytes a here it = refused_own (error_status (x ∷ xs)) bytes a it
 
 closed_own : (bytes : List ℕ) (a : App) → Own bytes a → Own bytes (door.closed a)
 closed_own bytes a it = freely_own a.side.held bytes (record a { door = record a.door { closing = true } }) it
