@@ -70,6 +70,11 @@ pub mod OwnParts
 pub mod OwnRuns
 pub mod Pairs
 pub mod Promises
+pub mod RefusedParts
+pub mod RefusedPipes
+pub mod RefusedRuns
+pub mod RefusedServer
+pub mod RefusedWalk
 pub mod Rounds
 pub mod ServerApps
 pub mod ServerAsks

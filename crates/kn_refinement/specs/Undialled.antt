@@ -1,5 +1,5 @@
 -- Apps that no dial is of.
-use Rattle.std.specs.Prelude.{◌≡◌, ◌≢◌, ℕ, List, [], None, Some}
+use Rattle.std.specs.Prelude.{◌≡◌, ◌≢◌, ℕ, [], None, Some}
 use Rattle.kn_packets.specs.Outcome.{IsIn}
 use Rattle.kn_world.specs.declared.parts.App.{App}
 use Rattle.kn_world.specs.declared.parts.AppChoice.{AppChoice}
