@@ -92,4 +92,5 @@ pub mod SettledMoves
 pub mod SettledRuns
 pub mod ShownChanges
 pub mod UndialledApps
+pub mod UndialledOpen
 pub mod Worlds

@@ -24,4 +24,6 @@ pub use named_laws::choices_name_all_links;
 pub use refused_laws::unanswered_apps_are_refused;
 pub use server_event_laws::server_events_lead;
 pub use server_laws::server_steps_are_moves;
-pub use undialled_laws::{connect_apps_get_nothing_undialled, unanswered_apps_have_no_dial};
+pub use undialled_laws::{
+    connect_apps_get_nothing_undialled, unanswered_apps_have_no_dial, undialled_apps_are_unopened,
+};
