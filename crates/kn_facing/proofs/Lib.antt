@@ -2,6 +2,7 @@ pub mod AheadLemmas
 pub mod AnswerStep
 pub mod BeginStep
 pub mod CarryLemmas
+pub mod ClientEnd
 pub mod EndStep
 pub mod FaceLemmas
 pub mod FacingLemmas

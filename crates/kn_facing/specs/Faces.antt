@@ -179,7 +179,11 @@ EndKeepsFaces = (a b : State) (ab ba : List Frame) (n : ℕ) → Faces a b ab ba
     → ((st : Stream) (trailers : List Field) → stream_at a.streams n ≡ Some st → st.finish ≡ Some trailers → IsOneFrame a.encoder trailers)
     → reply_bytes b.out + 17 * asking (ab ++ move_frames a (End n)) ≤ 32768 → Faces (after_move a (End n)) b (ab ++ move_frames a (End n)) ba
 
--- and tells a client that goes on to stop, where the reply frame has room
+-- A client ends its half by an empty DATA frame.
+abbrev pub ClientEndKeepsFaces : Type 0
+ClientEndKeepsFaces = (a b : State) (ab ba : List Frame) (n : ℕ) → Faces a b ab ba → is_client a.role ≡ true → may a (End n) ≡ true → Faces (after_move a (End n)) b (ab ++ move_frames a (End n)) ba
+
+-- A server tells a client that goes on to stop, where the reply frame has room
 abbrev pub StopKeepsFaces : Type 0
 StopKeepsFaces = (a b : State) (ab ba : List Frame) (n : ℕ) → Faces a b ab ba → is_client a.role ≡ false → may a (Stop n) ≡ true → reply_bytes (after_move a (Stop n)).out + 17 * asking ba ≤ 32768
     → Faces (after_move a (Stop n)) b (ab ++ move_frames a (Stop n)) ba

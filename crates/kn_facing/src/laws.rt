@@ -1,6 +1,6 @@
 ghost use Rattle.kn_facing.specs.Taken.{DataIsTaken, LastDataIsTaken, RequestIsTaken, ResponseIsTaken, TrailersAreTaken, ResetIsTaken, GrantIsTaken, StreamGrantIsTaken, ClientSettingsAreTaken, ServerSettingsAreTaken, AcknowledgementIsTaken};
 ghost use Rattle.kn_facing.specs.Sums.{FramesTake, FramesGrant, MovesShiftBoth, CallsLeaveBoth};
-ghost use Rattle.kn_facing.specs.Faces.{FacesTurn, FramesKeepFaces, StepsKeepFaces, TakesKeepFaces, TookKeepsFaces, QueuesKeepFaces, FinishesKeepFaces, FacesBegin, MovesKeepFaces, BeginKeepsFaces, AnswerKeepsFaces, EndKeepsFaces, StopKeepsFaces};
+ghost use Rattle.kn_facing.specs.Faces.{FacesTurn, FramesKeepFaces, StepsKeepFaces, TakesKeepFaces, TookKeepsFaces, QueuesKeepFaces, FinishesKeepFaces, FacesBegin, MovesKeepFaces, BeginKeepsFaces, AnswerKeepsFaces, EndKeepsFaces, StopKeepsFaces, ClientEndKeepsFaces};
 ghost use Rattle.kn_facing.specs.Wires.{WritesBehind, EntersAlike, ReadingKeepsFaces, FacesHaveOneStream, HalvesStayOpen, FacesKeepHalves};
 ghost use Rattle.kn_facing.specs.Pairs.{FacingTurns, FacingBegins, PiecesKeepFacing, EntersKeepFacing, StepsKeepFacing};
 ghost use Rattle.kn_facing.specs.Laws.{AcceptsJoin, AcceptsPart, NoFaultBefore, ReadsOn, OwnStepsTake, StaysFollowed, FewAreRead, MoreAreTaken, FramesKeepFollowed};
@@ -213,11 +213,12 @@ pub fn answer_keeps_faces()
     kn_h2::windows_follow();
 }
 
-/// So they do where a server ends its half of a stream by trailers that stand in one frame, and where it tells a
-/// client that goes on to stop.
+/// So they do where a server ends its half of a stream by trailers that stand in one frame, where it tells a client
+/// that goes on to stop, and where a client ends its half by an empty DATA frame.
 pub fn ends_keep_faces()
     ensures trailers { EndKeepsFaces }
     ensures stops { StopKeepsFaces }
+    ensures client { ClientEndKeepsFaces }
 {
     kn_h2_state::more_is_heard();
     kn_h2_state::opened_is_above();
