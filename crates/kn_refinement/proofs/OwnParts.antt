@@ -16,6 +16,8 @@ use Rattle.kn_world.specs.declared.parts.Stage.TheVariants.{Dialling, Open, Refu
 use Rattle.kn_world.specs.declared.state.State.{State}
 use Rattle.kn_world.specs.Apps as apps
 use Rattle.kn_world.specs.Clients as clients
+use Rattle.kn_connect.specs.Replies.{status_and_reason}
+use Rattle.kn_connect.specs.Statuses.{error_status, reply_length}
 use Rattle.kn_world.specs.Doors as door
 use Rattle.kn_world.specs.Effects.{is_unheard}
 use Rattle.kn_world.specs.Idle.{is_at_door}
@@ -76,17 +78,17 @@ freely_own false bytes a it = emptied_own bytes (record a { door = door.with_rep
 -- ---- what it hears
 pub refused_own : (status : ℕ) (bytes : List ℕ) (a : App) → Own bytes a → Own bytes (door.refused status a)
 refused_own status bytes a it =
-    let b : App = record a { error = door.refusal_text status; stage = Refused; door = record a.door { early = []; reply = door.reply_len status } } in
+    let b : App = record a { error = status_and_reason status; stage = Refused; door = record a.door { early = []; reply = reply_length status } } in
     freely_own b.side.held bytes b (with_stage Refused bytes a (gone (is_at_door a.stage)) it)
 
 opened_own : (bytes : List ℕ) (a : App) → is_at_door a.stage ≡ true → Own bytes a → Own bytes (door.opened a)
 opened_own bytes a here it =
-    let b : App = record a { stage = Open; door = door.with_reply 39 a.door } in
+    let b : App = record a { stage = Open; door = door.with_reply (reply_length 200) a.door } in
     freely_own b.side.held bytes b (with_stage Open bytes a (λ e. here) it)
 
 answered_own : (error bytes : List ℕ) (a : App) → is_at_door a.stage ≡ true → Own bytes a → Own bytes (door.answered error a)
 answered_own [] bytes a here it = opened_own bytes a here it
-answered_own (x ∷ xs) bytes a here it = refused_own (door.error_status (x ∷ xs)) bytes a it
+answered_own (x ∷ xs) bytes a here it = refused_own (error_status (x ∷ xs)) bytes a it
 
 closed_own : (bytes : List ℕ) (a : App) → Own bytes a → Own bytes (door.closed a)
 closed_own bytes a it = freely_own a.side.held bytes (record a { door = record a.door { closing = true } }) it

@@ -49,6 +49,8 @@ use Rattle.kn_world.specs.Pipes as pipes
 use Rattle.kn_world.specs.ServerPackets as server_packets
 use Rattle.kn_world.specs.ServerSteps as server
 use Rattle.kn_world.specs.Times.{times}
+use Rattle.kn_connect.specs.Replies.{status_and_reason}
+use Rattle.kn_connect.specs.Statuses.{fault_status, reply_length}
 use Rattle.kn_connect.specs.Answers.{Answers, IsGiven}
 use Rattle.kn_server_core.specs.Server as core
 use Rattle.kn_server_core.specs.declared.event.ServerEvent.{ServerEvent}
@@ -436,7 +438,7 @@ module _ (of_apps of_dials : ℕ → List ℕ) where
         (still_before a.home (a.door.number == 0) false [] (With app bytes app) (sent_of a.side) at unheard known.0 (λ e. absurd cc)))
       where
         refused : App
-        refused = record a { error = Rattle.kn_world.specs.Doors.refusal_text status; stage = stage.Refused; door = record a.door { front = []; early = []; reply = Rattle.kn_world.specs.Doors.reply_len status } }
+        refused = record a { error = status_and_reason status; stage = stage.Refused; door = record a.door { front = []; early = []; reply = reply_length status } }
 
     responds_own : (answer : Result ConnectAnswer ConnectError) → Answers fed answer → IsGiven answer → Holds (With app bytes) of_dials (hearing.responds answer rest app (record old { apps = read (hearing.holds answer fed) }))
     responds_own (Ok More) answers given = settles (With app bytes) of_dials app (record old { apps = read fed }) (more_comes answers)
@@ -450,7 +452,7 @@ module _ (of_apps of_dials : ℕ → List ℕ) where
         (apps_changed (With app bytes) of_dials (apps.early_kept early) (λ g x it. early_kept_own x.stage early g x it) app asked
         (server_step (With app bytes) of_dials app (FrontPacket front (hearing.request target)) up (server_step (With app bytes) of_dials 0 (FrontUp front) headed
         (head_comes target early front (ap (λ n. n == 0) (length_more old.fronts (owner.App app)) ∙ eqb-suc-zero (length old.fronts)) answers))))
-    responds_own (Err (connect_error.Fault fault)) answers given = fault_comes (Rattle.kn_world.specs.Doors.fault_status fault)
+    responds_own (Err (connect_error.Fault fault)) answers given = fault_comes (fault_status fault)
     responds_own (Err connect_error.NoMemory) answers given = absurd (given refl)
 
     hears_own : (new : State) → hearing.Hears bytes app old new → Holds (With app bytes) of_dials new
