@@ -53,6 +53,8 @@ pub mod DestSettles
 pub mod DoorsHeard
 pub mod DoorsKept
 pub mod DoorsTaken
+pub mod EndsParts
+pub mod EndsRuns
 pub mod Events
 pub mod FitsAgents
 pub mod FitsClients

@@ -1,5 +1,6 @@
 pub mod Asking
 pub mod Chosen
+pub mod Ends
 pub mod Fits
 pub mod Headline
 pub mod Homes

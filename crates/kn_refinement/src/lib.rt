@@ -6,6 +6,7 @@ mod agent_laws;
 mod choice_laws;
 mod client_laws;
 mod connect_laws;
+mod ends_laws;
 mod laws;
 mod named_laws;
 mod server_event_laws;
@@ -16,6 +17,7 @@ pub use agent_laws::{agents_lead, destinations_lead};
 pub use choice_laws::{choices_decide, requests_go_where_picked};
 pub use client_laws::{client_apps_lead, clients_lead};
 pub use connect_laws::connects_lead;
+pub use ends_laws::no_end_is_due;
 pub use laws::{
     events_are_moves, sides_send_their_own_bytes, worlds_begin_alike, worlds_keep_their_promises,
 };
