@@ -72,6 +72,7 @@ pub mod OwnParts
 pub mod OwnRuns
 pub mod Pairs
 pub mod Promises
+pub mod QuietWorlds
 pub mod Rounds
 pub mod ServerApps
 pub mod ServerAsks

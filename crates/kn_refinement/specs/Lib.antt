@@ -7,6 +7,7 @@ pub mod Homes
 pub mod Leads
 pub mod Named
 pub mod OwnBytes
+pub mod Quiet
 pub mod Requests
 pub mod Settled
 pub mod Shown

@@ -9,6 +9,7 @@ mod connect_laws;
 mod ends_laws;
 mod laws;
 mod named_laws;
+mod quiet_laws;
 mod server_event_laws;
 mod server_laws;
 mod undialled_laws;
@@ -22,6 +23,7 @@ pub use laws::{
     events_are_moves, sides_send_their_own_bytes, worlds_begin_alike, worlds_keep_their_promises,
 };
 pub use named_laws::choices_name_all_links;
+pub use quiet_laws::quiet_worlds_are_at_rest;
 pub use server_event_laws::server_events_lead;
 pub use server_laws::server_steps_are_moves;
 pub use undialled_laws::{connect_apps_get_nothing_undialled, unanswered_apps_have_no_dial};
