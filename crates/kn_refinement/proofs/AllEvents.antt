@@ -100,7 +100,7 @@ module _ (go : KeysGoOn) where
           (by_home old k (Leads old (effects.app_sent bytes k old)) (λ of_client. (client_apps.app_sent_leads go bytes old k fits keys of_client).leads) (λ a there h. door_sends_leads go bytes k old a there h heard fits keys))
 
   -- ---- pipes
-  pipe_leads : (p : Pipe) → Steps (pipes.step p)
+  pub pipe_leads : (p : Pipe) → Steps (pipes.step p)
   pipe_leads (AgentUp l) s fits keys = agent_up_leads (doors.settles_leads go plain_serves) l s fits keys
   pipe_leads (AgentDown l) s fits keys = agent_down_leads go l s fits keys
   pipe_leads (ClientUp c) s fits keys = client_up_leads s c fits keys

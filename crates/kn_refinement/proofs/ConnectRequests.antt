@@ -86,7 +86,7 @@ kept_held : (early : List ℕ) (b : App) → (door.kept_some early b).side.held 
 kept_held [] b = refl
 kept_held (x ∷ xs) b = refl
 
-heard_is : (text : List ℕ) (c r : ℤ) (b : App) → b.stage ≡ stage.Dialling → b.door.closing ≡ false → apps.heard (DialRsp text c r) b ≡ door.answered text b
+pub heard_is : (text : List ℕ) (c r : ℤ) (b : App) → b.stage ≡ stage.Dialling → b.door.closing ≡ false → apps.heard (DialRsp text c r) b ≡ door.answered text b
 heard_is text c r b s e = ap (λ d. cond d b (door.heard_by b.stage (DialRsp text c r) b)) e ∙ ap (λ g. door.heard_by g (DialRsp text c r) b) s
 
 abbrev shaped : List ℕ → App → App

@@ -73,6 +73,11 @@ pub mod OwnRuns
 pub mod Pairs
 pub mod Promises
 pub mod QuietWorlds
+pub mod RefusedParts
+pub mod RefusedPipes
+pub mod RefusedRuns
+pub mod RefusedServer
+pub mod RefusedWalk
 pub mod Rounds
 pub mod ServerApps
 pub mod ServerAsks
@@ -90,4 +95,5 @@ pub mod SettledMoves
 pub mod SettledRuns
 pub mod ShownChanges
 pub mod UndialledApps
+pub mod UndialledOpen
 pub mod Worlds

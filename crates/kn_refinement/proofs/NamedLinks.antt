@@ -1,5 +1,5 @@
 -- A choice has the links of the server, which are those of the agents that are up.
-use Rattle.std.proofs.Common.{◌≡◌, ◌==◌, ◌||◌, ℕ, ℤ, Bool, true, false, cond, List, [], ◌∷◌, map, Option, None, Some, Result, Ok, Err, refl, sym, ap, ◌∙◌, is_some}
+use Rattle.std.proofs.Common.{◌≡◌, ◌==◌, ◌||◌, ℕ, Bool, true, false, cond, List, [], ◌∷◌, map, Option, None, Some, Result, Ok, Err, refl, sym, ap, ◌∙◌, is_some}
 use Rattle.std.specs.List.{list_any}
 use Rattle.std.specs.Prelude.{nat_lt}
 use Rattle.kn_packet.specs.declared.packet.Packet.{Packet}
@@ -10,7 +10,7 @@ use Rattle.kn_route.specs.declared.host.HostFault.{HostFault}
 use Rattle.kn_route.specs.declared.link.Link.{Link}
 use Rattle.kn_tables.specs.Awaiting.{is_random}
 use Rattle.kn_tables.specs.Lists.{first_where}
-use Rattle.kn_server_core.specs.Choices.{choice_asked, choice_at, choice_by_host, choice_in, choice_of}
+use Rattle.kn_server_core.specs.Choices.{choice_at, choice_by_host, choice_in, choice_of}
 use Rattle.kn_server_core.specs.FrontLists.{is_up}
 use Rattle.kn_server_core.specs.Server.{is_tcp, tunnels_of}
 use Rattle.kn_server_core.specs.declared.choice.Choice.{Choice}

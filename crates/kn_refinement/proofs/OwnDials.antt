@@ -134,24 +134,28 @@ module _ (s : State) where
               heard true none = absurd (some (fits.fronts.unheard k b there at (eqb-true b.door.number 0 none)).dial)
               heard false some = ap (λ (v : WorldApp). v.came) (app_is ∙ ap (λ h. app_at_home s.clients h b) at ∙ ap (λ t. cond t no_app (connect_app b)) some)
 
-    pub gets_nothing : Keys (shown s) → ((k : ℕ) → ((shown s).apps k).came ≡ true → ((shown s).apps k).dial ≡ None → ((shown s).apps k).side.got ≡ []) → GetsNothingUndialled s
-    gets_nothing keys none k b there came no_dial = by_dial b.dial refl
+    -- one that no dial of the report is of has none in the packet world
+    pub has_no_dial : Keys (shown s) → (k : ℕ) (b : App) → nth k s.apps ≡ Some b → ((shown s).apps k).came ≡ true → ((d : ℕ) (x : DialShown) → nth d (views.shown s).dials ≡ Some x → x.app ≢ k) → ((shown s).apps k).dial ≡ None
+    has_no_dial keys k b there came no_dial = by_dial b.dial refl
       where
-        seen : (((shown s).apps k).dial ≡ number_if b.dial) × (((shown s).apps k).side.got ≡ [] → b.side.coming.passed ≡ [])
-        seen = as_it_is k b there came
+        seen : ((shown s).apps k).dial ≡ number_if b.dial
+        seen = (as_it_is k b there came).0
 
-        of_dial : (n : ℕ) → b.dial ≡ suc n → (x : Dial) → nth (suc n) s.dials ≡ Some x → b.side.coming.passed ≡ []
+        of_dial : (n : ℕ) → b.dial ≡ suc n → (x : Dial) → nth (suc n) s.dials ≡ Some x → ((shown s).apps k).dial ≡ None
         of_dial n e x at =
             let a = fits.asked.asker (suc n) x at in
             let a_came : ((shown s).apps x.app).came ≡ true = dialled_came x.app a.0 a.1 (λ z. dial_not_none (suc n) s.dials x at (sym a.2 ∙ z)) in
             let a_seen = as_it_is x.app a.0 a.1 a_came in
-            let same : k ≡ x.app = keys.clients.dials_once k x.app (suc n) came a_came (seen.0 ∙ ap number_if e) (a_seen.0 ∙ ap number_if a.2) in
+            let same : k ≡ x.app = keys.clients.dials_once k x.app (suc n) came a_came (seen ∙ ap number_if e) (a_seen.0 ∙ ap number_if a.2) in
             absurd (no_dial (suc n) (dial_shown s.agents x) (shown_at (suc n) x at) (sym same))
 
-        by_dial : (d : ℕ) → b.dial ≡ d → b.side.coming.passed ≡ []
-        by_dial zero e = seen.1 (none k came (seen.0 ∙ ap number_if e))
+        by_dial : (d : ℕ) → b.dial ≡ d → ((shown s).apps k).dial ≡ None
+        by_dial zero e = seen ∙ ap number_if e
         by_dial (suc n) e =
-            let older : suc n < s.server.next_dial = keys.server.dials_older k (suc n) came (seen.0 ∙ ap number_if e) in
+            let older : suc n < s.server.next_dial = keys.server.dials_older k (suc n) came (seen ∙ ap number_if e) in
             let below : suc n < length s.dials + 1 = subst (λ m. suc n < m) fits.next_dial older in
             let x = there_below s.dials n (omega arith) in
             of_dial n e x.0 x.1
+
+    pub gets_nothing : Keys (shown s) → ((k : ℕ) → ((shown s).apps k).came ≡ true → ((shown s).apps k).dial ≡ None → ((shown s).apps k).side.got ≡ []) → GetsNothingUndialled s
+    gets_nothing keys none k b there came no_dial = (as_it_is k b there came).1 (none k came (has_no_dial keys k b there came no_dial))

@@ -1,9 +1,8 @@
 -- An app by CONNECT that no dial is of is either in the packet world, where it got nothing, or its head is not whole.
-use Rattle.std.proofs.Common.{◌≡◌, ◌==◌, ℕ, Bool, true, false, cond, List, [], refl, sym, ap, ◌∙◌, eqb-true}
+use Rattle.std.proofs.Common.{◌≡◌, ◌==◌, Bool, true, false, cond, List, [], refl, sym, ap, ◌∙◌, eqb-true}
 use Rattle.kn_route.specs.declared.strategy.Strategy.{Strategy}
 use Rattle.kn_packets.specs.Moves.{no_app}
 use Rattle.kn_packets.specs.World.{WorldApp}
-use Rattle.kn_world.specs.declared.parts.Home.TheVariants as home
 use Rattle.kn_world.specs.declared.state.State.{State}
 use Rattle.kn_world.specs.Views as views
 use Rattle.kn_refinement.specs.Fits.{Fits}

@@ -8,6 +8,7 @@ pub mod Leads
 pub mod Named
 pub mod OwnBytes
 pub mod Quiet
+pub mod Refusals
 pub mod Requests
 pub mod Settled
 pub mod Shown

@@ -1,5 +1,5 @@
 -- The links that a choice names, in a world that runs.
-use Rattle.std.specs.Prelude.{◌≡◌, ◌==◌, ℕ, Bool, false, List, map, Option, None, Some}
+use Rattle.std.specs.Prelude.{◌≡◌, ◌==◌, ℕ, Bool, false, map, Option, None, Some}
 use Rattle.std.specs.List.{list_any}
 use Rattle.kn_route.specs.LinkLists.{mark_of}
 use Rattle.kn_server_core.specs.Choices.{choice_at}

@@ -10,6 +10,7 @@ mod ends_laws;
 mod laws;
 mod named_laws;
 mod quiet_laws;
+mod refused_laws;
 mod server_event_laws;
 mod server_laws;
 mod undialled_laws;
@@ -24,6 +25,9 @@ pub use laws::{
 };
 pub use named_laws::choices_name_all_links;
 pub use quiet_laws::quiet_worlds_are_at_rest;
+pub use refused_laws::unanswered_apps_are_refused;
 pub use server_event_laws::server_events_lead;
 pub use server_laws::server_steps_are_moves;
-pub use undialled_laws::{connect_apps_get_nothing_undialled, unanswered_apps_have_no_dial};
+pub use undialled_laws::{
+    connect_apps_get_nothing_undialled, unanswered_apps_have_no_dial, undialled_apps_are_unopened,
+};
