@@ -21,4 +21,5 @@ pub mod SteadyLemmas
 pub mod StepLemmas
 pub mod SumLemmas
 pub mod TakenLemmas
+pub mod UnendedLemmas
 pub mod WireLemmas

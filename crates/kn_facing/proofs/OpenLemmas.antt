@@ -29,11 +29,12 @@ use Rattle.kn_h2_state.proofs.PreorderLaws.{silent}
 use Rattle.kn_h2_state.proofs.VerdictFacts.{none_holds}
 use Rattle.kn_h2.proofs.RuleLemmas.{passes_rules}
 use Rattle.kn_facing.specs.Facing.{emptied, IsTaken, Fits, AreTaken, asks, asking}
-use Rattle.kn_facing.specs.Wires.{HalvesStayOpen, FacesKeepHalves}
+use Rattle.kn_facing.specs.Wires.{HalvesStayOpen, FacesKeepHalves, UnendedStaysOpen}
 use Rattle.kn_facing.proofs.CarryLemmas.{hears_left}
 use Rattle.kn_facing.proofs.FaceLemmas.{Known, turned, way_taken}
 use Rattle.kn_facing.proofs.ListSums.{asking-append}
 use Rattle.kn_facing.proofs.StepLemmas.{back_before}
+use Rattle.kn_facing.proofs.UnendedLemmas.{front_end}
 use Rattle.kn_facing.proofs.RoomLemmas.{Replied, most, few_replies, Keeps}
 
 -- the stream is there, and its peer's half open
@@ -286,3 +287,6 @@ faces_keep_halves k a b fs ab ba n h half none =
     let too = way_taken k a (emptied b) b (fs ++ ab) h.end_a.one (back_before b a ba (fs ++ ab) other) e.holds e.goes hears (omega (arith, all)) in
     let parts = asking-append fs ab in
     halves_stay_open k.keep n b fs e.holds e.goes (front_limits fs ab h.to_b.limits) (taken_front b fs ab too.taken) (omega (arith, all, parts)) half none
+
+pub unended_stays_open : Known → UnendedStaysOpen
+unended_stays_open k a b fs ab ba n h half goes_on = faces_keep_halves k a b fs ab ba n h half (front_end n fs ab (h.to_b.ends n goes_on))

@@ -15,7 +15,7 @@ use Rattle.kn_h2_state.specs.Hearing.{is_peer_open, StaysOpen}
 use Rattle.kn_h2.specs.Answered.{frames_answer}
 use Rattle.kn_facing.specs.Ways.{Way, IsWhole, entered, with_from}
 use Rattle.kn_facing.specs.Facing.{coming, AreTaken, asking}
-use Rattle.kn_facing.specs.Faces.{Faces, acknowledged}
+use Rattle.kn_facing.specs.Faces.{HasNotEnded, Faces, acknowledged}
 
 -- frames that the one end writes come behind those that are on their way
 pub record Behind (w : Way) (t : State) (fs : List Frame) : Type 0 where
@@ -68,3 +68,7 @@ HalvesStayOpen = (n : ℕ) (s : State) (fs : List Frame) → Holds s → s.faile
 -- So do the first frames on their way between two ends that face each other.
 abbrev pub FacesKeepHalves : Type 0
 FacesKeepHalves = (a b : State) (fs ab ba : List Frame) (n : ℕ) → Faces a b (fs ++ ab) ba → is_peer_open n b ≡ true → ends_in n fs ≡ 0 → StaysOpen n b fs
+
+-- and so they do as long as the end that writes them has not ended its own half
+abbrev pub UnendedStaysOpen : Type 0
+UnendedStaysOpen = (a b : State) (fs ab ba : List Frame) (n : ℕ) → Faces a b (fs ++ ab) ba → is_peer_open n b ≡ true → HasNotEnded a n → StaysOpen n b fs

@@ -1,7 +1,7 @@
 ghost use Rattle.kn_facing.specs.Taken.{DataIsTaken, LastDataIsTaken, RequestIsTaken, ResponseIsTaken, TrailersAreTaken, ResetIsTaken, GrantIsTaken, StreamGrantIsTaken, ClientSettingsAreTaken, ServerSettingsAreTaken, AcknowledgementIsTaken};
 ghost use Rattle.kn_facing.specs.Sums.{FramesTake, FramesGrant, MovesShiftBoth, CallsLeaveBoth};
 ghost use Rattle.kn_facing.specs.Faces.{FacesTurn, FramesKeepFaces, StepsKeepFaces, TakesKeepFaces, TookKeepsFaces, QueuesKeepFaces, FinishesKeepFaces, FacesBegin, MovesKeepFaces, BeginKeepsFaces, AnswerKeepsFaces, EndKeepsFaces, StopKeepsFaces, ClientEndKeepsFaces};
-ghost use Rattle.kn_facing.specs.Wires.{WritesBehind, EntersAlike, ReadingKeepsFaces, FacesHaveOneStream, HalvesStayOpen, FacesKeepHalves};
+ghost use Rattle.kn_facing.specs.Wires.{WritesBehind, EntersAlike, ReadingKeepsFaces, FacesHaveOneStream, HalvesStayOpen, FacesKeepHalves, UnendedStaysOpen};
 ghost use Rattle.kn_facing.specs.Pairs.{FacingTurns, FacingBegins, PiecesKeepFacing, EntersKeepFacing, StepsKeepFacing};
 ghost use Rattle.kn_facing.specs.Laws.{AcceptsJoin, AcceptsPart, NoFaultBefore, ReadsOn, OwnStepsTake, StaysFollowed, FewAreRead, MoreAreTaken, FramesKeepFollowed};
 
@@ -285,10 +285,11 @@ pub fn facing_goes_on()
 }
 
 /// Frames that are taken, none of which ends a stream, leave the peer's half of it open; so do the first of those that
-/// are on their way between two ends that face each other.
+/// are on their way between two ends that face each other, and all of them while their writer has not ended its half.
 pub fn halves_stay_open()
     ensures frames { HalvesStayOpen }
     ensures faces { FacesKeepHalves }
+    ensures unended { UnendedStaysOpen }
 {
     kn_h2_state::more_is_heard();
     kn_h2_state::opened_is_above();
