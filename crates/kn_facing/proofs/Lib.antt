@@ -7,6 +7,7 @@ pub mod EndStep
 pub mod FaceLemmas
 pub mod FacingLemmas
 pub mod FollowedLemmas
+pub mod HeardLemmas
 pub mod ListSums
 pub mod MoveStep
 pub mod MoveTaken
