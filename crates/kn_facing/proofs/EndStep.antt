@@ -306,7 +306,7 @@ ends s n st holds server at = subst (λ (o : Option Stream). Ends s (made s (End
     or_true true = refl
     or_true false = refl
 
-end_frames_of : (s : State) (n : ℕ) (st : Stream) (trailers : List Field) → is_client s.role ≡ false → stream_at s.streams n ≡ Some st → st.finish ≡ Some trailers → move_frames s (End n) ≡ head_list n 1 (block_of s.encoder trailers)
+pub end_frames_of : (s : State) (n : ℕ) (st : Stream) (trailers : List Field) → is_client s.role ≡ false → stream_at s.streams n ≡ Some st → st.finish ≡ Some trailers → move_frames s (End n) ≡ head_list n 1 (block_of s.encoder trailers)
 unfolding move_frames
 end_frames_of s n st trailers server at finish =
     ap (λ (o : Option Stream). made_frames s (End n) o) at ∙ (ap (λ (o : Option (List Field)). end_list s n o) finish ∙ ap (λ (b : Bool). if b then frame 0 1 n [] ∷ [] else head_list n 1 (block_of s.encoder trailers)) server)

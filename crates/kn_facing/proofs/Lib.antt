@@ -7,6 +7,7 @@ pub mod EndStep
 pub mod FaceLemmas
 pub mod FacingLemmas
 pub mod FollowedLemmas
+pub mod HeardLemmas
 pub mod ListSums
 pub mod MoveStep
 pub mod MoveTaken
@@ -21,4 +22,5 @@ pub mod SteadyLemmas
 pub mod StepLemmas
 pub mod SumLemmas
 pub mod TakenLemmas
+pub mod UnendedLemmas
 pub mod WireLemmas
