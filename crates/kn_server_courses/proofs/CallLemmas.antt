@@ -100,7 +100,7 @@ fresh_waits kinds.Agents s = omega arith
 fresh_waits kinds.Clients s = omega arith
 fresh_waits kinds.Connect s = omega arith
 
-at_begun : (P : Option End → Type 0) (ends : Members End) (n c : ℕ) (e : End) → AreMembers ends → (n ≡ c → P (Some e)) → P (at ends c) → P (at (inserted ends n e) c)
+pub at_begun : (P : Option End → Type 0) (ends : Members End) (n c : ℕ) (e : End) → AreMembers ends → (n ≡ c → P (Some e)) → P (at ends c) → P (at (inserted ends n e) c)
 at_begun P ends n c e a own other = by_number (eqb c n) refl
   where
     by_number : (t : Bool) → eqb c n ≡ t → P (at (inserted ends n e) c)
