@@ -1,2 +1,3 @@
+pub mod FrameFacts
 pub mod HeadFacts
 pub mod SizeFacts

@@ -23,7 +23,7 @@ ascii (x ∷ xs) h = let low : x < 128 = h 0 in (omega (arith, low), ascii xs (�
 number_is_bytes : (n : ℕ) → n < 2 ^ 32 → IsBytes (decimal n)
 number_is_bytes n small = ascii (decimal n) (IsAscii-decimal n (omega arith))
 
-number_is_short : (n : ℕ) → n < 2 ^ 32 → length (decimal n) ≤ 10
+pub number_is_short : (n : ℕ) → n < 2 ^ 32 → length (decimal n) ≤ 10
 number_is_short n small = length-decimal-le 10 n (omega arith) (omega arith) (omega arith)
 
 pub calls_are_small : CallsAreSmall

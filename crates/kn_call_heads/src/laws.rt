@@ -1,3 +1,4 @@
+ghost use Rattle.kn_call_heads.specs.OneFrame.{CallsAreOneFrame, AnswersAreOneFrame, RefusalsAreOneFrame, EndsAreOneFrame, CallsKeepFaces, AnswersKeepFaces, EndsKeepFaces};
 ghost use Rattle.kn_call_heads.specs.OwnHeads.{CallsAreRequests, AnswersAreHeads, RefusalsAreHeads, EndsAreTrailers, CallsAreSmall, AnswersAreSmall, RefusalsAreSmall, EndsAreSmall};
 
 /// The head of a call is no malformed request, whatever the authority and what the agent says of itself.
@@ -25,3 +26,26 @@ pub fn heads_are_small()
     ensures refusals { RefusalsAreSmall }
     ensures ends { EndsAreSmall }
 {}
+
+/// Each of these heads stands in one frame, whatever its end wrote before, where these texts are as short as that.
+pub fn heads_stand_in_one_frame()
+    ensures calls { CallsAreOneFrame }
+    ensures answers { AnswersAreOneFrame }
+    ensures refusals { RefusalsAreOneFrame }
+    ensures ends { EndsAreOneFrame }
+{
+    kn_h2_state::own_blocks_are_short();
+}
+
+/// Two ends of a connection that face each other go on to do so where the client begins a call, where the server
+/// answers it, and where it ends it, each by a head of our own.
+pub fn own_heads_keep_faces()
+    ensures calls { CallsKeepFaces }
+    ensures answers { AnswersKeepFaces }
+    ensures ends { EndsKeepFaces }
+{
+    kn_h2_state::own_blocks_are_short();
+    kn_facing::begin_keeps_faces();
+    kn_facing::answer_keeps_faces();
+    kn_facing::ends_keep_faces();
+}

@@ -4,4 +4,7 @@
 
 mod laws;
 
-pub use laws::{answers_are_heads, calls_are_requests, ends_are_trailers, heads_are_small};
+pub use laws::{
+    answers_are_heads, calls_are_requests, ends_are_trailers, heads_are_small,
+    heads_stand_in_one_frame, own_heads_keep_faces,
+};

@@ -6,7 +6,7 @@ use crate::Command;
 use crate::messages::line_fault;
 use crate::outcome::{Outcome, refused, written};
 use kn_io::{Blob, NoMemory};
-use kn_refinement::worlds_keep_their_promises;
+use kn_refinement::{no_end_is_due, sides_send_their_own_bytes, worlds_keep_their_promises};
 use kn_route::Strategies;
 use kn_script::{ScriptError, line_count, read_script, reason_text, report};
 use kn_world::{World, WorldEvent};
@@ -38,6 +38,8 @@ fn replayed(alloc: Global, strategies: Strategies, events: &[WorldEvent]) -> Res
     ensures { IfOk result (ReportsRun strategies events.now) }
 {
     worlds_keep_their_promises();
+    sides_send_their_own_bytes();
+    no_end_is_due();
     let mut world = World::new(alloc, strategies);
     let idle = world.run(alloc, events)?;
     report(alloc, &world, idle)

@@ -45,6 +45,7 @@ use Rattle.kn_facing.proofs.MoveTaken.{Knows, knows}
 use Rattle.kn_facing.proofs.OwnSumLemmas.{calls_leave_both}
 use Rattle.kn_facing.proofs.ReadStep.{one_taken}
 use Rattle.kn_facing.proofs.StepLemmas.{steps_keep_faces, awaits_back}
+use Rattle.kn_facing.proofs.UnendedLemmas.{one_goes_on}
 use Rattle.kn_facing.proofs.TakenLemmas.{content_is, response_is_taken}
 
 -- ---- the server's own side
@@ -361,6 +362,7 @@ answer_keeps_faces k next a b ab ba n fields h server fits first answer one room
       hears = (k.steps a h.end_a.holds h.end_a.facts.known).answer n fields server;
       limits = (record { payload = one.short; stream = number_of_call a n takes_more fits h.end_a.holds }, tt);
       taken = one_taken u head taken;
+      ends = λ m g. one_goes_on m head refl;
       followed = subst (λ (z : State). IsFollowed t z) (sym (after_one u head ∙ after)) followed;
       awaits = subst (λ (z : State). Awaits t z) (sym (after_one u head ∙ after)) awaits;
       goes = λ m x g. subst (λ (z : ℤ). MayGo a m z) (same_less x) (((calls_leave_both a n m h.end_a.holds).answer fields).goes x g);

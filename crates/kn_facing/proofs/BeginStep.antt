@@ -48,6 +48,7 @@ use Rattle.kn_facing.proofs.ReadStep.{one_taken}
 use Rattle.kn_facing.proofs.RoomLemmas.{Replied, most, few_replies, Keeps}
 use Rattle.kn_facing.proofs.SteadyLemmas.{Steady, steady_frame}
 use Rattle.kn_facing.proofs.StepLemmas.{steps_keep_faces, taken_back}
+use Rattle.kn_facing.proofs.UnendedLemmas.{one_goes_on}
 use Rattle.kn_facing.proofs.TakenLemmas.{content_is, request_is_taken}
 
 -- ---- what is on its way leaves a stream as it is that was not begun when it was written
@@ -297,6 +298,7 @@ begin_keeps_faces k next a b ab ba fields h client none formed one room =
       hears = (k.steps a h.end_a.holds h.end_a.facts.known).begin fields client;
       limits = (record { payload = one.short; stream = omega (arith, is_one) }, tt);
       taken = one_taken u head taken;
+      ends = λ m g. one_goes_on m head refl;
       followed = subst (λ (v : State). IsFollowed t v) (sym (after_one u head ∙ after)) followed;
       awaits = subst (λ (v : State). Awaits t v) (sym (after_one u head ∙ after)) (λ c m y below at up. absurd (no_client c));
       goes = λ m x g. subst (λ (z : ℤ). MayGo a m z) (same_less x) (((calls_leave_both a 0 m h.end_a.holds).begin fields h.end_a.initial).goes x g);

@@ -45,41 +45,39 @@ use Rattle.kn_facing.proofs.ReadStep.{one_taken}
 use Rattle.kn_facing.proofs.StepLemmas.{steps_keep_faces, awaits_back}
 use Rattle.kn_facing.proofs.TakenLemmas.{content_last, trailers_are_taken, reset_is_taken}
 
-climbs_changed : (s : State) (n : ℕ) (f : Stream → Stream) → ((st : Stream) → (f st).number ≡ st.number) → Holds s → Climbs 0 (change s.streams n f)
+pub climbs_changed : (s : State) (n : ℕ) (f : Stream → Stream) → ((st : Stream) → (f st).number ≡ st.number) → Holds s → Climbs 0 (change s.streams n f)
 climbs_changed s n f number holds = climbing 0 s.opened (change s.streams n f) (rises_change 0 s.opened s.streams n f number (rises 0 s.opened s.streams holds.rising))
 
 -- ---- one stream changes at both ends
 
-record Changes (s t u v : State) (n : ℕ) : Type 0 where
-  here : Stream
-  found : stream_at s.streams n ≡ Some here
-  own : (m : ℕ) → n ≢ m → stream_at t.streams m ≡ stream_at s.streams m
-  other : (m : ℕ) → n ≢ m → seen_at v m ≡ seen_at u m
-  opened : t.opened ≡ s.opened
-  role : t.role ≡ s.role
-  began : v.began ≡ true
-  block : v.block ≡ None
-  decoder : IsInStep t.encoder v.decoder
-  there : v.opened ≡ u.opened
-  half : (x y : Stream) → stream_at t.streams n ≡ Some x → x.own_open ≡ true → stream_at v.streams n ≡ Some y → is_open y ≡ true → y.peer_open ≡ true
-  head : (x y : Stream) → stream_at t.streams n ≡ Some x → stream_at v.streams n ≡ Some y → is_open y ≡ true → y.answered ≡ x.answered
+pub record Changes (s t u v : State) (n : ℕ) : Type 0 where
+  pub here : Stream
+  pub found : stream_at s.streams n ≡ Some here
+  pub own : (m : ℕ) → n ≢ m → stream_at t.streams m ≡ stream_at s.streams m
+  pub other : (m : ℕ) → n ≢ m → seen_at v m ≡ seen_at u m
+  pub opened : t.opened ≡ s.opened
+  pub role : t.role ≡ s.role
+  pub began : v.began ≡ true
+  pub block : v.block ≡ None
+  pub decoder : IsInStep t.encoder v.decoder
+  pub kind : v.role ≡ u.role
+  pub there : v.opened ≡ u.opened
+  pub half : (x y : Stream) → stream_at t.streams n ≡ Some x → x.own_open ≡ true → stream_at v.streams n ≡ Some y → is_open y ≡ true → y.peer_open ≡ true
+  pub head : is_client u.role ≡ true → (x y : Stream) → stream_at t.streams n ≡ Some x → stream_at v.streams n ≡ Some y → is_open y ≡ true → y.answered ≡ x.answered
 
-changes_followed : (s t u v : State) (n : ℕ) → Knows s u → is_client s.role ≡ false → Changes s t u v n → IsFollowed t v
-changes_followed s t u v n w server c = record {
+changes_followed : (s t u v : State) (n : ℕ) → Knows s u → Changes s t u v n → IsFollowed t v
+changes_followed s t u v n w c = record {
   began = c.began;
   block = c.block;
   decoder = c.decoder;
   halves = λ m x y at own there up. half m x y at own there up (eqb n m) refl;
-  heads = λ client m x y at there up. heads m x y at there up (eqb n m) refl;
-  opened = λ client. absurd (contrary (ap is_client (sym c.role) ∙ client));
-  begun = λ client. let low = w.followed.begun here in let same = c.there in let mine = c.opened in omega (arith, low, same, mine);
+  heads = λ client m x y at there up. heads (here client) m x y at there up (eqb n m) refl;
+  opened = λ client. c.there ∙ (w.followed.opened (ap is_client (sym c.role) ∙ client) ∙ sym c.opened);
+  begun = λ client. let low = w.followed.begun (here client) in let same = c.there in let mine = c.opened in omega (arith, low, same, mine);
 }
   where
-    contrary : is_client s.role ≡ true → ⊥
-    contrary e = cc
-
-    here : is_client u.role ≡ true
-    here = w.other ∙ ap not server
+    here : is_client v.role ≡ true → is_client u.role ≡ true
+    here client = ap is_client (sym c.kind) ∙ client
 
     half : (m : ℕ) (x y : Stream) → stream_at t.streams m ≡ Some x → x.own_open ≡ true → stream_at v.streams m ≡ Some y → is_open y ≡ true → (b : Bool) → eqb n m ≡ b → y.peer_open ≡ true
     half m x y at own there up true e =
@@ -90,17 +88,17 @@ changes_followed s t u v n w server c = record {
         let g = alike y (stream_at u.streams m) (ap seen (sym there) ∙ c.other m other) in
         g.2.peer ∙ w.followed.halves m x g.0 (sym (c.own m other) ∙ at) own g.1 (g.2.up ∙ up)
 
-    heads : (m : ℕ) (x y : Stream) → stream_at t.streams m ≡ Some x → stream_at v.streams m ≡ Some y → is_open y ≡ true → (b : Bool) → eqb n m ≡ b → y.answered ≡ x.answered
-    heads m x y at there up true e =
+    heads : is_client u.role ≡ true → (m : ℕ) (x y : Stream) → stream_at t.streams m ≡ Some x → stream_at v.streams m ≡ Some y → is_open y ≡ true → (b : Bool) → eqb n m ≡ b → y.answered ≡ x.answered
+    heads client m x y at there up true e =
         let same : n ≡ m = eqb-true n m e in
-        c.head x y (subst (λ (j : ℕ). stream_at t.streams j ≡ Some x) (sym same) at) (subst (λ (j : ℕ). stream_at v.streams j ≡ Some y) (sym same) there) up
-    heads m x y at there up false e =
+        c.head client x y (subst (λ (j : ℕ). stream_at t.streams j ≡ Some x) (sym same) at) (subst (λ (j : ℕ). stream_at v.streams j ≡ Some y) (sym same) there) up
+    heads client m x y at there up false e =
         let other = eqb-false n m e in
         let g = alike y (stream_at u.streams m) (ap seen (sym there) ∙ c.other m other) in
-        g.2.head ∙ w.followed.heads here m x g.0 (sym (c.own m other) ∙ at) g.1 (g.2.up ∙ up)
+        g.2.head ∙ w.followed.heads client m x g.0 (sym (c.own m other) ∙ at) g.1 (g.2.up ∙ up)
 
-changes_awaits : (s t u v : State) (n : ℕ) → Knows s u → is_client s.role ≡ false → Changes s t u v n → Awaits t v
-changes_awaits s t u v n w server c client m y low there up = by_test (eqb n m) refl
+changes_awaits : (s t u v : State) (n : ℕ) → Knows s u → Changes s t u v n → Awaits t v
+changes_awaits s t u v n w c client m y low there up = by_test (eqb n m) refl
   where
     above : s.opened < m
     above = subst (λ (j : ℕ). j < m) c.opened low
@@ -109,14 +107,14 @@ changes_awaits s t u v n w server c client m y low there up = by_test (eqb n m) 
     by_test true e = absurd (is_known s.opened m s.streams c.here w.own.holds.rising (subst (λ (j : ℕ). stream_at s.streams j ≡ Some c.here) (eqb-true n m e) c.found) above)
     by_test false e =
         let g = alike y (stream_at u.streams m) (ap seen (sym there) ∙ c.other m (eqb-false n m e)) in
-        let z = w.awaits (w.other ∙ ap not server) m g.0 above g.1 (g.2.up ∙ up) in
+        let z = w.awaits (ap is_client (sym c.kind) ∙ client) m g.0 above g.1 (g.2.up ∙ up) in
         (g.2.peer ∙ z.0, g.2.head ∙ z.1)
 
-as_move : (s : State) (m : Move) (u v : State) (n : ℕ) (f : Frame) → Knows s u → is_client s.role ≡ false → move_frames s m ≡ f ∷ [] → IsTaken u f → after_frame u f ≡ v → Changes s (after_move s m) u v n → MoveTaken s m u
-as_move s m u v n f w server e taken after c = record {
+pub as_move : (s : State) (m : Move) (u v : State) (n : ℕ) (f : Frame) → Knows s u → move_frames s m ≡ f ∷ [] → IsTaken u f → after_frame u f ≡ v → Changes s (after_move s m) u v n → MoveTaken s m u
+as_move s m u v n f w e taken after c = record {
   taken = subst (λ (fs : List Frame). AreTaken u fs) (sym e) (one_taken u f taken);
-  followed = subst (λ (fs : List Frame). IsFollowed (after_move s m) (after_frames u fs)) (sym e) (subst (λ (z : State). IsFollowed (after_move s m) z) (sym (after_one u f ∙ after)) (changes_followed s (after_move s m) u v n w server c));
-  awaits = subst (λ (fs : List Frame). Awaits (after_move s m) (after_frames u fs)) (sym e) (subst (λ (z : State). Awaits (after_move s m) z) (sym (after_one u f ∙ after)) (changes_awaits s (after_move s m) u v n w server c));
+  followed = subst (λ (fs : List Frame). IsFollowed (after_move s m) (after_frames u fs)) (sym e) (subst (λ (z : State). IsFollowed (after_move s m) z) (sym (after_one u f ∙ after)) (changes_followed s (after_move s m) u v n w c));
+  awaits = subst (λ (fs : List Frame). Awaits (after_move s m) (after_frames u fs)) (sym e) (subst (λ (z : State). Awaits (after_move s m) z) (sym (after_one u f ∙ after)) (changes_awaits s (after_move s m) u v n w c));
 }
 
 -- ---- RST_STREAM
@@ -130,7 +128,7 @@ reset n = frame 3 0 n (to_be_bytes w32 0)
 abbrev cut : Stream → Stream
 cut c = record (shut c) { text = [] }
 
-abbrev begun : State → State
+abbrev pub begun : State → State
 begun u = record u { began = true }
 
 record IsCut (u v : State) (n : ℕ) : Type 0 where
@@ -176,7 +174,7 @@ stop_frames s n st e = ap (λ (o : Option Stream). made_frames s (Stop n) o) e
 
 stop_taken : Known → (s u : State) (n : ℕ) → Knows s u → is_client s.role ≡ false → may s (Stop n) ≡ true → MoveTaken s (Stop n) u
 stop_taken k s u n w server ok =
-    as_move s (Stop n) u (after_frame u (reset n)) n (reset n) w server (stop_frames s n st here.1.found) taken refl
+    as_move s (Stop n) u (after_frame u (reset n)) n (reset n) w (stop_frames s n st here.1.found) taken refl
     (record {
       here = st;
       found = here.1.found;
@@ -187,9 +185,10 @@ stop_taken k s u n w server ok =
       began = ap (λ (z : State). z.began) to ∙ was.began;
       block = ap (λ (z : State). z.block) to ∙ (was.block ∙ w.followed.block);
       decoder = subst (λ (b : Bool). IsInStep b (after_frame u (reset n)).decoder) (sym (stop_encoder s n)) (subst (λ d. IsInStep s.encoder d) (sym (ap (λ (z : State). z.decoder) to ∙ was.decoder)) w.followed.decoder);
+      kind = k.roles.frame u (reset n);
       there = ap (λ (z : State). z.opened) to ∙ was.opened;
       half = λ x y at own there up. absurd (closed y there up);
-      head = λ x y at there up. absurd (closed y there up);
+      head = λ _ x y at there up. absurd (closed y there up);
     })
   where
     here : (st : Stream) × IsFound s.streams n can_stop st
@@ -234,7 +233,7 @@ stop_keeps_faces k v a b ab ba n h server ok room =
 
 -- ---- trailers
 
-abbrev over : Stream → Stream
+abbrev pub over : Stream → Stream
 over c = record c { peer_open = false }
 
 abbrev with_end : ℕ → State → State
@@ -286,7 +285,7 @@ heard u n (Some c) = by_open (is_open c)
     by_open false = record { began = refl; block = refl; decoder = refl; opened = refl }
 
 -- the server's own half has ended
-abbrev HasEnded : Stream → Option Stream → Type 0
+abbrev pub HasEnded : Stream → Option Stream → Type 0
 HasEnded st o = IfSome o (λ x. (x.own_open ≡ false) × (x.answered ≡ st.answered))
 
 record Ends (s t : State) (n : ℕ) (st : Stream) : Type 0 where
@@ -307,19 +306,19 @@ ends s n st holds server at = subst (λ (o : Option Stream). Ends s (made s (End
     or_true true = refl
     or_true false = refl
 
-end_frames_of : (s : State) (n : ℕ) (st : Stream) (trailers : List Field) → is_client s.role ≡ false → stream_at s.streams n ≡ Some st → st.finish ≡ Some trailers → move_frames s (End n) ≡ head_list n 1 (block_of s.encoder trailers)
+pub end_frames_of : (s : State) (n : ℕ) (st : Stream) (trailers : List Field) → is_client s.role ≡ false → stream_at s.streams n ≡ Some st → st.finish ≡ Some trailers → move_frames s (End n) ≡ head_list n 1 (block_of s.encoder trailers)
 unfolding move_frames
 end_frames_of s n st trailers server at finish =
     ap (λ (o : Option Stream). made_frames s (End n) o) at ∙ (ap (λ (o : Option (List Field)). end_list s n o) finish ∙ ap (λ (b : Bool). if b then frame 0 1 n [] ∷ [] else head_list n 1 (block_of s.encoder trailers)) server)
 
-some_finish : (o : Option (List Field)) → is_some o ≡ true → (trailers : List Field) × (o ≡ Some trailers)
+pub some_finish : (o : Option (List Field)) → is_some o ≡ true → (trailers : List Field) × (o ≡ Some trailers)
 some_finish None e = absurd cc
 some_finish (Some trailers) e = (trailers, refl)
 
 end_taken : Known → NextIsRead → (s u : State) (n : ℕ) → Knows s u → is_client s.role ≡ false → may s (End n) ≡ true
     → ((st : Stream) (trailers : List Field) → stream_at s.streams n ≡ Some st → st.finish ≡ Some trailers → IsOneFrame s.encoder trailers) → MoveTaken s (End n) u
 end_taken k next s u n w server ok short =
-    as_move s (End n) u v n head w server (end_frames_of s n st trailers server here.1.found has.1 ∙ head_frames n 1 block one.short) taken after
+    as_move s (End n) u v n head w (end_frames_of s n st trailers server here.1.found has.1 ∙ head_frames n 1 block one.short) taken after
     (record {
       here = st;
       found = here.1.found;
@@ -330,9 +329,10 @@ end_taken k next s u n w server ok short =
       began = now.began;
       block = now.block;
       decoder = subst (λ (b : Bool). IsInStep b v.decoder) (sym done.encoder) now.decoder;
+      kind = ap (λ (z : State). z.role) (sym after) ∙ k.roles.frame u head;
       there = now.opened;
       half = λ x y at own there up. absurd (ended x at own);
-      head = λ x y at there up. let g = subst (AsBefore u n) there (as_before u n (stream_at u.streams n) w.holds refl) up in
+      head = λ _ x y at there up. let g = subst (AsBefore u n) there (as_before u n (stream_at u.streams n) w.holds refl) up in
           g.3 ∙ (w.followed.heads client n st g.0 here.1.found g.1 g.2 ∙ sym (subst (HasEnded st) at done.gone).1);
     })
   where

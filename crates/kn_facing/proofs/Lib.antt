@@ -2,10 +2,12 @@ pub mod AheadLemmas
 pub mod AnswerStep
 pub mod BeginStep
 pub mod CarryLemmas
+pub mod ClientEnd
 pub mod EndStep
 pub mod FaceLemmas
 pub mod FacingLemmas
 pub mod FollowedLemmas
+pub mod HeardLemmas
 pub mod ListSums
 pub mod MoveStep
 pub mod MoveTaken
@@ -20,4 +22,5 @@ pub mod SteadyLemmas
 pub mod StepLemmas
 pub mod SumLemmas
 pub mod TakenLemmas
+pub mod UnendedLemmas
 pub mod WireLemmas

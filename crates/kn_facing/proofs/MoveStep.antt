@@ -15,14 +15,15 @@ use Rattle.kn_h2_state.specs.Streams.{stream_at, change}
 use Rattle.kn_h2_state.specs.Rules.{is_client}
 use Rattle.kn_h2_state.specs.Feeding.{after_frames}
 use Rattle.kn_h2_state.specs.Holding.{Holds}
+use Rattle.kn_h2_state.specs.Preorder.{HearsMore}
 use Rattle.kn_h2_state.specs.Moves.{may, can_send, made, target, after_move, granted, sent_some, own_ended, stopped}
-use Rattle.kn_h2_state.specs.Wire.{frame, grants_in, data_lengths_in, more_list, head_list, end_list, made_frames, move_frames, moved_text, WrittenIsRead, MovesAreWritten, IsBetweenFrames}
+use Rattle.kn_h2_state.specs.Wire.{frame, ends_in, grants_in, data_lengths_in, more_list, head_list, end_list, made_frames, move_frames, moved_text, WrittenIsRead, MovesAreWritten, IsBetweenFrames}
 use Rattle.kn_h2_state.proofs.BorneLemmas.{rises, climbing, rises_change, at_change, at_tidied}
 use Rattle.kn_h2_state.proofs.SeenLemmas.{Climbs, climbs, none_below}
 use Rattle.kn_h2_state.proofs.TellLaws.{moves_are_quiet}
 use Rattle.kn_h2.specs.Sending.{MoveKeeps, Spends, spent_by, spent}
 use Rattle.kn_h2.specs.Windows.{MoveShifts, ConnectionRises}
-use Rattle.kn_h2.specs.Written.{MovesBring, granted_by, granted_in}
+use Rattle.kn_h2.specs.Written.{MovesBring, granted_by, granted_in, ended_by}
 use Rattle.kn_h2.proofs.FoundLemmas.{found_open}
 use Rattle.kn_h2.proofs.MoveLemmas.{move_parts, send_parts}
 use Rattle.kn_facing.specs.Facing.{IsFollowed, Awaits, AreTaken}
@@ -31,6 +32,7 @@ use Rattle.kn_facing.specs.Faces.{all_lengths, AnswersFirst, IsEnd, IsStep}
 use Rattle.kn_facing.proofs.FaceLemmas.{Known}
 use Rattle.kn_facing.proofs.OwnSumLemmas.{move_opened, moves_shift_both}
 use Rattle.kn_facing.proofs.ReadStep.{FirstOf, first_at}
+use Rattle.kn_facing.proofs.UnendedLemmas.{unended_move}
 
 -- the laws of the crates below on moves
 pub record Moving : Type 0 where
@@ -177,11 +179,12 @@ move_step k v s m u e ok t = record {
     first = move_first s m e.holds (k.roles.move s m) e.first;
   };
   role = k.roles.move s m;
-  hears = (k.steps s e.holds e.facts.known).move m e.facts.ended ok;
+  hears = hears;
   limits = (v.written s m e.holds ok).limits;
   taken = t.taken;
   followed = t.followed;
   awaits = t.awaits;
+  ends = λ n g. ends n ∙ unended_move s m n e.holds e.facts ok hears g;
   goes = goes;
   comes = comes;
   all_goes = spent_sum s.send (after_move s m).send (spent (m ∷ [])) (all_lengths (move_frames s m)) (spent_by m) (v.spends s (after_move s m) (m ∷ []) (ok, refl)) refl (all_moved s m ok);
@@ -190,6 +193,9 @@ move_step k v s m u e ok t = record {
   where
     holds : Holds (after_move s m)
     holds = v.keeps s m e.holds ok
+
+    hears : HearsMore s (after_move s m)
+    hears = (k.steps s e.holds e.facts.known).move m e.facts.ended ok
 
     reader : Reading
     reader = in_frames [] 0
@@ -202,6 +208,9 @@ move_step k v s m u e ok t = record {
 
     grants : (n : ℕ) → grants_in n (move_frames s m) ≡ granted_by n s m
     grants n = ap (λ (fs : List Frame). grants_in n fs) (sym (v.read (move_frames s m) reader (v.written s m e.holds ok).limits between).frames) ∙ (v.brings s m n e.holds ok reader between).grants
+
+    ends : (n : ℕ) → ends_in n (move_frames s m) ≡ ended_by n m
+    ends n = ap (λ (fs : List Frame). ends_in n fs) (sym (v.read (move_frames s m) reader (v.written s m e.holds ok).limits between).frames) ∙ (v.brings s m n e.holds ok reader between).ends
 
     goes : (n : ℕ) (x : ℤ) → MayGo (after_move s m) n x → MayGo s n (x +ℤ pos (data_lengths_in n (move_frames s m)))
     goes n x g =

@@ -29,19 +29,20 @@ use Rattle.kn_h2_state.proofs.PreorderLaws.{silent}
 use Rattle.kn_h2_state.proofs.VerdictFacts.{none_holds}
 use Rattle.kn_h2.proofs.RuleLemmas.{passes_rules}
 use Rattle.kn_facing.specs.Facing.{emptied, IsTaken, Fits, AreTaken, asks, asking}
-use Rattle.kn_facing.specs.Wires.{HalvesStayOpen, FacesKeepHalves}
+use Rattle.kn_facing.specs.Wires.{HalvesStayOpen, FacesKeepHalves, UnendedStaysOpen}
 use Rattle.kn_facing.proofs.CarryLemmas.{hears_left}
 use Rattle.kn_facing.proofs.FaceLemmas.{Known, turned, way_taken}
 use Rattle.kn_facing.proofs.ListSums.{asking-append}
 use Rattle.kn_facing.proofs.StepLemmas.{back_before}
+use Rattle.kn_facing.proofs.UnendedLemmas.{front_end}
 use Rattle.kn_facing.proofs.RoomLemmas.{Replied, most, few_replies, Keeps}
 
 -- the stream is there, and its peer's half open
-abbrev HasHalf : Option Stream → Type 0
+abbrev pub HasHalf : Option Stream → Type 0
 HasHalf None = ⊥
 HasHalf (Some st) = st.peer_open ≡ true
 
-half_of : (o : Option Stream) → passes (λ st. st.peer_open) o ≡ true → HasHalf o
+pub half_of : (o : Option Stream) → passes (λ st. st.peer_open) o ≡ true → HasHalf o
 half_of None e = absurd cc
 half_of (Some st) e = by_half st.peer_open st.own_open e
   where
@@ -50,7 +51,7 @@ half_of (Some st) e = by_half st.peer_open st.own_open e
     by_half false true e = e
     by_half false false e = e
 
-half_is : (o : Option Stream) → HasHalf o → passes (λ st. st.peer_open) o ≡ true
+pub half_is : (o : Option Stream) → HasHalf o → passes (λ st. st.peer_open) o ≡ true
 half_is None h = absurd h
 half_is (Some st) h = ap (λ (b : Bool). (b || st.own_open) && b) h
 
@@ -145,7 +146,7 @@ head_half s n fields holds h first fits = by_found (stream_at s.streams n) refl 
 
 -- ---- a frame
 
-two_right : (a b c : Bool) → ((a && b) || c) ≡ false → a ≡ true → b ≡ false
+pub two_right : (a b c : Bool) → ((a && b) || c) ≡ false → a ≡ true → b ≡ false
 two_right true false c e g = refl
 two_right true true c e g = absurd cc
 two_right false b c e g = absurd cc
@@ -160,21 +161,21 @@ second_part true false c e g h = e
 second_part true true c e g h = absurd cc
 second_part false b c e g h = absurd cc
 
-no_block : (o : Option Block) (f : Frame) → ((is_some o && not (continues o f)) || (is_none o && (f.kind == 9))) ≡ false → (f.kind == 9) ≡ false → o ≡ None
+pub no_block : (o : Option Block) (f : Frame) → ((is_some o && not (continues o f)) || (is_none o && (f.kind == 9))) ≡ false → (f.kind == 9) ≡ false → o ≡ None
 no_block None f e g = refl
 no_block (Some b) f e g = absurd (contrary (sym (ap (λ (c : Bool). not (c && (f.stream == b.stream)) || false) g) ∙ e))
   where
     contrary : true ≡ false → ⊥
     contrary e = cc
 
-first_kind : (a b : Bool) → (a || b) ≡ true → b ≡ false → a ≡ true
+pub first_kind : (a b : Bool) → (a || b) ≡ true → b ≡ false → a ≡ true
 first_kind true b e g = refl
 first_kind false b e g = absurd (contrary b e g)
   where
     contrary : (b : Bool) → b ≡ true → b ≡ false → ⊥
     contrary b e g = cc
 
-chosen : (P : State → Type 0) (b : Bool) (x y : State) → (b ≡ true → P x) → (b ≡ false → P y) → P (if b then x else y)
+pub chosen : (P : State → Type 0) (b : Bool) (x y : State) → (b ≡ true → P x) → (b ≡ false → P y) → P (if b then x else y)
 chosen P true x y p q = p refl
 chosen P false x y p q = q refl
 
@@ -221,7 +222,7 @@ effect_half s f holds taken goes_on h =
         (λ p r. let g = taken.head one p r in record { request = g.request; response = g.response }))
         h
 
-frame_half : (s : State) (f : Frame) (n : ℕ) → Holds s → s.failed ≡ None → IsTaken s f → is_end n f ≡ false → HasHalf (stream_at s.streams n) → HasHalf (stream_at (after_frame s f).streams n)
+pub frame_half : (s : State) (f : Frame) (n : ℕ) → Holds s → s.failed ≡ None → IsTaken s f → is_end n f ≡ false → HasHalf (stream_at s.streams n) → HasHalf (stream_at (after_frame s f).streams n)
 unfolding is_end
 frame_half s f n holds on taken goes_on h = by_test (eqb f.stream n) refl
   where
@@ -238,7 +239,7 @@ frame_half s f n holds on taken goes_on h = by_test (eqb f.stream n) refl
 
 -- ---- all of them
 
-none_ends : (b : Bool) (rest : ℕ) → (if b then 1 else 0) + rest ≡ 0 → b ≡ false
+pub none_ends : (b : Bool) (rest : ℕ) → (if b then 1 else 0) + rest ≡ 0 → b ≡ false
 none_ends true rest e = absurd (omega (arith, e))
 none_ends false rest e = refl
 
@@ -246,7 +247,7 @@ rest_ends : (b : Bool) (rest : ℕ) → (if b then 1 else 0) + rest ≡ 0 → re
 rest_ends true rest e = absurd (omega (arith, e))
 rest_ends false rest e = omega (arith, e)
 
-no_reset : (a b c : Bool) → (a && (b || c)) ≡ false → (c && a) ≡ false
+pub no_reset : (a b c : Bool) → (a && (b || c)) ≡ false → (c && a) ≡ false
 no_reset true true c e = absurd cc
 no_reset true false true e = absurd cc
 no_reset true false false e = refl
@@ -286,3 +287,6 @@ faces_keep_halves k a b fs ab ba n h half none =
     let too = way_taken k a (emptied b) b (fs ++ ab) h.end_a.one (back_before b a ba (fs ++ ab) other) e.holds e.goes hears (omega (arith, all)) in
     let parts = asking-append fs ab in
     halves_stay_open k.keep n b fs e.holds e.goes (front_limits fs ab h.to_b.limits) (taken_front b fs ab too.taken) (omega (arith, all, parts)) half none
+
+pub unended_stays_open : Known → UnendedStaysOpen
+unended_stays_open k a b fs ab ba n h half goes_on = faces_keep_halves k a b fs ab ba n h half (front_end n fs ab (h.to_b.ends n goes_on))

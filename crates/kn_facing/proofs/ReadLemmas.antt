@@ -18,7 +18,7 @@ use Rattle.kn_facing.proofs.SteadyLemmas.{Steady, steady_frame}
 -- ---- a stream after a frame, and before it
 
 -- it was there, and its own half open if it is now; or it is new
-abbrev There : State → ℕ → Stream → Type 0
+abbrev pub There : State → ℕ → Stream → Type 0
 There s n st = (a : Stream) × (stream_at s.streams n ≡ Some a) × (st.own_open ≡ true → a.own_open ≡ true)
 
 abbrev IsOlder : State → ℕ → Option Stream → Type 0
@@ -60,7 +60,7 @@ itself : (s : State) (n : ℕ) (o : Option Stream) → stream_at s.streams n ≡
 itself s n None e = tt
 itself s n (Some st) e = inl (st, e, λ own. own)
 
-older : (s : State) (f : Frame) (n : ℕ) (st : Stream) → Holds s → stream_at (after_frame s f).streams n ≡ Some st → There s n st ⊎ (s.opened < n)
+pub older : (s : State) (f : Frame) (n : ℕ) (st : Stream) → Holds s → stream_at (after_frame s f).streams n ≡ Some st → There s n st ⊎ (s.opened < n)
 older s f n st holds found =
     let b = borne_frame (bears_older (is_client s.role) s n) s f refl (borne_start s (rises 0 s.opened s.streams holds.rising) (itself s n (stream_at s.streams n) refl)) in
     subst (λ (o : Option Stream). IsOlder s n o) found b.there

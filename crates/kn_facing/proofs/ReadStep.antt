@@ -28,6 +28,7 @@ use Rattle.kn_facing.proofs.RoomLemmas.{Replied, most, few_replies, one_open, op
 use Rattle.kn_facing.proofs.SteadyLemmas.{Steady, steady_frame}
 use Rattle.kn_facing.proofs.SumLemmas.{frames_take, frames_grant}
 use Rattle.kn_facing.proofs.TakenLemmas.{acknowledgement_is_taken}
+use Rattle.kn_facing.proofs.UnendedLemmas.{unended_frame, no_end, rest_end, one_goes_on}
 
 -- ---- text waits on answered streams alone
 
@@ -117,6 +118,7 @@ sound_acks a s ba f on h = by_test ((f.kind == 4) && not (has f 1))
       taken = taken_join (emptied a) ba (ack ∷ []) h.taken (one_taken (after_frames (emptied a) ba) ack (ack_taken (after_frames (emptied a) ba) listens));
       followed = subst (λ (t : State). IsFollowed s t) (sym (ack_last (emptied a) ba on listens)) h.followed;
       awaits = subst (λ (t : State). Awaits s t) (sym (ack_last (emptied a) ba on listens)) h.awaits;
+      ends = λ n g. no_end n ba (ack ∷ []) (h.ends n g) (one_goes_on n ack refl);
       replies = let e = asking-append ba (ack ∷ []) in let few = h.replies in omega (arith, e, few);
     }
 
@@ -149,9 +151,9 @@ frames_keep_faces k a b f ab ba h = record {
   other = ap is_client steady_b.role ∙ h.other;
   end_a = h.end_a;
   end_b = record { holds = holds_b; facts = (k.facts b e.holds e.facts).frame f; goes = replied_b.goes; initial = steady_b.initial ∙ e.initial; one = one; first = first_frame b f e.holds steady_b.role e.first };
-  to_b = record { limits = w.limits.1; taken = way.taken; followed = way.followed; awaits = way.awaits; replies = let few = replied_b.few in let all = w.replies in omega (arith, few, all) };
+  to_b = record { limits = w.limits.1; taken = way.taken; followed = way.followed; awaits = way.awaits; replies = let few = replied_b.few in let all = w.replies in omega (arith, few, all); ends = λ n g. rest_end n f ab (w.ends n g) };
   to_a = sound_acks a (after_frame b f) ba f run_a.goes
-      (record { limits = h.to_a.limits; taken = h.to_a.taken; followed = kept.followed; awaits = kept.awaits; replies = h.to_a.replies });
+      (record { limits = h.to_a.limits; taken = h.to_a.taken; followed = kept.followed; awaits = kept.awaits; replies = h.to_a.replies; ends = λ n g. h.to_a.ends n (unended_frame k.above b f n e.holds g) });
   sum_ab = λ n x y mx my. take_sum x y (y +ℤ pos (data_length n f)) (data_length n f) (data_lengths_in n ab) (data_lengths_in n (f ∷ ab)) (grants_in n ba) (grants_in n (ba ++ acknowledged f))
       (h.sum_ab n x (y +ℤ pos (data_length n f)) mx (frames_take k.above k.shift b f n y e.holds e.goes taken_b.kept my)) (lengths-first n f ab) refl
       (plus_none (grants_in n (ba ++ acknowledged f)) (grants_in n ba) (grants_in n (acknowledged f)) (grants-append n ba (acknowledged f)) (acks_nothing n f).grants);

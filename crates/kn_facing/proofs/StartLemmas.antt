@@ -35,6 +35,7 @@ use Rattle.kn_facing.specs.Faces.{all_lengths, IsEnd, IsSound, FacesBegin}
 use Rattle.kn_facing.specs.Taken.{IsListening}
 use Rattle.kn_facing.proofs.CarryLemmas.{holds_emptied, none_waits}
 use Rattle.kn_facing.proofs.RoomLemmas.{most, few_replies, Keeps}
+use Rattle.kn_facing.proofs.UnendedLemmas.{no_end, one_goes_on}
 use Rattle.kn_facing.proofs.TakenLemmas.{client_settings_are_taken, server_settings_are_taken, grant_is_taken}
 
 -- ---- an end without streams reads an opening
@@ -184,6 +185,7 @@ sound t s payload new_t new_s limits b = record {
   };
   awaits = λ client n c low at up. absurd (no_stream ahead n c b.streams at);
   replies = let none = new_t.quiet in omega (arith, none);
+  ends = λ n g. no_end n (first_frame payload ∷ []) (grant ∷ []) (one_goes_on n (first_frame payload) refl) (one_goes_on n grant refl);
 }
   where
     ahead : State

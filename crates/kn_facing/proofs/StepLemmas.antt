@@ -15,7 +15,7 @@ use Rattle.kn_h2_state.specs.Rules.{is_client}
 use Rattle.kn_h2_state.specs.Feeding.{after_frames}
 use Rattle.kn_h2_state.specs.Calls.{text_of, refusal, queue_refusal, takes_more, with_taken, with_queued, with_finish, after_take, after_queue, after_finish, after_took}
 use Rattle.kn_h2_state.specs.Preorder.{HearsMore}
-use Rattle.kn_h2_state.specs.Wire.{grants_in, data_lengths_in}
+use Rattle.kn_h2_state.specs.Wire.{grants_in, data_lengths_in, ends_in}
 use Rattle.kn_h2_state.proofs.BorneLemmas.{rises, climbing, rises_change, at_change, at_tidied}
 use Rattle.kn_h2_state.specs.Opening.{answered_in}
 use Rattle.kn_h2_state.proofs.OtherLaws.{calls_leave_others}
@@ -32,6 +32,7 @@ use Rattle.kn_facing.proofs.FaceLemmas.{Known, turned, Before, way_on, way_taken
 use Rattle.kn_facing.proofs.ListSums.{grants-append, lengths-append, all-append, all_by-append}
 use Rattle.kn_facing.proofs.OwnSumLemmas.{calls_leave_both}
 use Rattle.kn_facing.proofs.ReadStep.{taken_join}
+use Rattle.kn_facing.proofs.UnendedLemmas.{unended_step, no_end}
 
 -- ---- sums
 
@@ -89,8 +90,9 @@ steps_keep_faces k a b t fs ab ba h step waits room room_b = record {
     followed = subst (λ (u : State). IsFollowed t u) (sym joined) step.followed;
     awaits = subst (λ (u : State). Awaits t u) (sym joined) step.awaits;
     replies = room_b;
+    ends = λ n g. no_end n ab fs (h.to_b.ends n (unended_step a t n step.hears g)) (step.ends n g);
   };
-  to_a = record { limits = h.to_a.limits; taken = back.taken; followed = followed_back k a b t ab ba h step.still step.hears back; awaits = waits; replies = room };
+  to_a = record { limits = h.to_a.limits; ends = h.to_a.ends; taken = back.taken; followed = followed_back k a b t ab ba h step.still step.hears back; awaits = waits; replies = room };
   sum_ab = λ n x y mx my. goes_sum x y (data_lengths_in n fs) (data_lengths_in n ab) (data_lengths_in n (ab ++ fs)) (grants_in n ba)
       (h.sum_ab n (x +ℤ pos (data_lengths_in n fs)) y (step.goes n x mx) my) (lengths-append n ab fs);
   sum_ba = λ n x y mx my. comes_sum x y (grants_in n fs) (data_lengths_in n ba) (grants_in n ab) (grants_in n (ab ++ fs))
@@ -155,7 +157,7 @@ minus_zero : (x : ℤ) → x ≡ (x -ℤ pos 0)
 minus_zero x = omega (arith, ints)
 
 silently : Known → (a b t : State) (ab ba : List Frame) → Faces a b ab ba → Silently a t → Faces t b ab ba
-unfolding AreTaken after_frames grants_in data_lengths_in all_lengths
+unfolding AreTaken after_frames grants_in data_lengths_in all_lengths ends_in
 silently k a b t ab ba h c =
     subst (λ (fs : List Frame). Faces t b fs ba) (append-nil ab)
     (steps_keep_faces k a b t [] ab ba h step (awaits_back k a b t ab ba h c.still c.hears c.opened)
@@ -173,6 +175,7 @@ silently k a b t ab ba h c =
       limits = tt;
       taken = tt;
       followed = lower_followed a t u c h.to_b.followed;
+      ends = λ n g. refl;
       awaits = λ client n b low at up. h.to_b.awaits client n b (let same = c.opened in omega (arith, same, low)) at up;
       goes = λ n x m. subst (λ (z : ℤ). MayGo a n z) (plus_zero x) ((c.windows n).goes x m);
       comes = λ n y m. subst (λ (z : ℤ). MayCome a n z) (minus_zero y) ((c.windows n).comes y m);

@@ -1,5 +1,5 @@
 -- Two ends of one connection that face each other, with the frames that are on their way between them.
-use Rattle.std.specs.Prelude.{◌≡◌, ℕ, ℤ, pos, ◌+◌, ◌*◌, ◌+ℤ◌, ◌-ℤ◌, ◌≤◌, ◌==◌, Bool, true, false, not, ◌&&◌, List, [], ◌∷◌, ◌++◌, length, None, Some, if◌then◌else◌}
+use Rattle.std.specs.Prelude.{◌≡◌, ◌⊎◌, ◌<◌, ℕ, ℤ, pos, ◌+◌, ◌*◌, ◌+ℤ◌, ◌-ℤ◌, ◌≤◌, ◌==◌, Bool, true, false, not, ◌&&◌, List, [], ◌∷◌, ◌++◌, length, None, Some, if◌then◌else◌}
 use Rattle.std.specs.List.{AllByRecursion}
 use Rattle.kn_frames.specs.declared.frame.Frame.{Frame}
 use Rattle.kn_frames.specs.Frames.{IsWithinLimits}
@@ -22,7 +22,7 @@ use Rattle.kn_h2_state.specs.Calls.{fresh_state, text_of, refusal, queue_refusal
 use Rattle.kn_h2_state.specs.Moves.{may, after_move, headers_frames}
 use Rattle.kn_h2_state.specs.Holding.{Holds}
 use Rattle.kn_h2_state.specs.Preorder.{HearsMore, OwnFacts}
-use Rattle.kn_h2_state.specs.Wire.{frame, grants_in, data_lengths_in, head_list, move_frames}
+use Rattle.kn_h2_state.specs.Wire.{frame, ends_in, grants_in, data_lengths_in, head_list, move_frames}
 use Rattle.kn_h2.specs.Written.{opening_list, begin_list}
 use Rattle.kn_facing.specs.Facing.{emptied, IsFollowed, Awaits, AreTaken, IsResponse, asking}
 use Rattle.kn_facing.specs.Sums.{MayCome, MayGo, StreamSum}
@@ -40,6 +40,10 @@ ConnectionSum s fs t back = s.send +ℤ pos (all_lengths fs + grants_in 0 back) 
 
 -- ---- one end, and one way
 
+-- This end has not ended its half of the stream: the half is open, or the stream is not begun yet.
+abbrev pub HasNotEnded : State → ℕ → Type 0
+HasNotEnded s n = ((a : Stream) × (stream_at s.streams n ≡ Some a) × (a.own_open ≡ true)) ⊎ (s.opened < n)
+
 -- at a server text and an end wait on no stream that is not answered
 abbrev pub AnswersFirst : State → Type 0
 AnswersFirst s = is_client s.role ≡ false → (n : ℕ) (st : Stream) → stream_at s.streams n ≡ Some st → st.answered ≡ false → (length st.queue ≡ 0) × (st.finish ≡ None)
@@ -54,13 +58,14 @@ pub record IsEnd (s : State) : Type 0 where
   pub first : AnswersFirst s
 
 -- What s wrote, and is on its way to t, t takes; and what s may write next, t takes behind it. A reply is at most 17
--- bytes; the rest of 65,536 is for the answers of this end's own.
+-- bytes; the rest of 65,536 is for the answers of this end's own. No frame ends a half that s has not ended.
 pub record IsSound (t : State) (fs : List Frame) (s : State) : Type 0 where
   pub limits : AllByRecursion IsWithinLimits fs
   pub taken : AreTaken (emptied t) fs
   pub followed : IsFollowed s (after_frames (emptied t) fs)
   pub awaits : Awaits s (after_frames (emptied t) fs)
   pub replies : reply_bytes t.out + 17 * asking fs ≤ 32768
+  pub ends : (n : ℕ) → HasNotEnded s n → ends_in n fs ≡ 0
 
 -- ---- both
 
@@ -101,6 +106,7 @@ pub record IsStep (s t : State) (fs : List Frame) (u : State) : Type 0 where
   pub taken : AreTaken u fs
   pub followed : IsFollowed t (after_frames u fs)
   pub awaits : Awaits t (after_frames u fs)
+  pub ends : (n : ℕ) → HasNotEnded t n → ends_in n fs ≡ 0
   pub goes : (n : ℕ) (x : ℤ) → MayGo t n x → MayGo s n (x +ℤ pos (data_lengths_in n fs))
   pub comes : (n : ℕ) (y : ℤ) → MayCome t n y → MayCome s n (y -ℤ pos (grants_in n fs))
   pub all_goes : s.send ≡ t.send +ℤ pos (all_lengths fs)
@@ -179,7 +185,11 @@ EndKeepsFaces = (a b : State) (ab ba : List Frame) (n : ℕ) → Faces a b ab ba
     → ((st : Stream) (trailers : List Field) → stream_at a.streams n ≡ Some st → st.finish ≡ Some trailers → IsOneFrame a.encoder trailers)
     → reply_bytes b.out + 17 * asking (ab ++ move_frames a (End n)) ≤ 32768 → Faces (after_move a (End n)) b (ab ++ move_frames a (End n)) ba
 
--- and tells a client that goes on to stop, where the reply frame has room
+-- A client ends its half by an empty DATA frame.
+abbrev pub ClientEndKeepsFaces : Type 0
+ClientEndKeepsFaces = (a b : State) (ab ba : List Frame) (n : ℕ) → Faces a b ab ba → is_client a.role ≡ true → may a (End n) ≡ true → Faces (after_move a (End n)) b (ab ++ move_frames a (End n)) ba
+
+-- A server tells a client that goes on to stop, where the reply frame has room
 abbrev pub StopKeepsFaces : Type 0
 StopKeepsFaces = (a b : State) (ab ba : List Frame) (n : ℕ) → Faces a b ab ba → is_client a.role ≡ false → may a (Stop n) ≡ true → reply_bytes (after_move a (Stop n)).out + 17 * asking ba ≤ 32768
     → Faces (after_move a (Stop n)) b (ab ++ move_frames a (Stop n)) ba

@@ -1,5 +1,5 @@
 -- The bytes that are on their way, as frames, through the steps of both ends.
-use Rattle.std.specs.Prelude.{◌≡◌, ◌≢◌, ℕ, ◌+◌, ◌*◌, ◌≤◌, true, List, [], ◌∷◌, ◌++◌, None}
+use Rattle.std.specs.Prelude.{◌≡◌, ◌≢◌, ◌⊎◌, ℕ, ◌+◌, ◌*◌, ◌<◌, ◌≤◌, true, List, [], ◌∷◌, ◌++◌, None}
 use Rattle.std.specs.List.{AllByRecursion}
 use Rattle.kn_frames.specs.declared.frame.Frame.{Frame}
 use Rattle.kn_frames.specs.Frames.{IsWithinLimits}
@@ -7,7 +7,7 @@ use Rattle.kn_h2_state.specs.declared.state.State.{State}
 use Rattle.kn_h2_state.specs.Streams.{stream_at}
 use Rattle.kn_h2_state.specs.Feeding.{after_frames}
 use Rattle.kn_h2_state.specs.Calls.{text_of}
-use Rattle.kn_h2_state.specs.Wire.{spellings, ends_in}
+use Rattle.kn_h2_state.specs.Wire.{spellings, ends_in, Hears}
 use Rattle.kn_h2_state.specs.Limits.{reply_limit}
 use Rattle.kn_h2_state.specs.Outgoing.{reply_bytes}
 use Rattle.kn_h2_state.specs.Holding.{Holds}
@@ -15,7 +15,7 @@ use Rattle.kn_h2_state.specs.Hearing.{is_peer_open, StaysOpen}
 use Rattle.kn_h2.specs.Answered.{frames_answer}
 use Rattle.kn_facing.specs.Ways.{Way, IsWhole, entered, with_from}
 use Rattle.kn_facing.specs.Facing.{coming, AreTaken, asking}
-use Rattle.kn_facing.specs.Faces.{Faces, acknowledged}
+use Rattle.kn_facing.specs.Faces.{HasNotEnded, Faces, acknowledged}
 
 -- frames that the one end writes come behind those that are on their way
 pub record Behind (w : Way) (t : State) (fs : List Frame) : Type 0 where
@@ -68,3 +68,20 @@ HalvesStayOpen = (n : ℕ) (s : State) (fs : List Frame) → Holds s → s.faile
 -- So do the first frames on their way between two ends that face each other.
 abbrev pub FacesKeepHalves : Type 0
 FacesKeepHalves = (a b : State) (fs ab ba : List Frame) (n : ℕ) → Faces a b (fs ++ ab) ba → is_peer_open n b ≡ true → ends_in n fs ≡ 0 → StaysOpen n b fs
+
+-- and so they do as long as the end that writes them has not ended its own half
+abbrev pub UnendedStaysOpen : Type 0
+UnendedStaysOpen = (a b : State) (fs ab ba : List Frame) (n : ℕ) → Faces a b (fs ++ ab) ba → is_peer_open n b ≡ true → HasNotEnded a n → StaysOpen n b fs
+
+-- the peer may be heard on a stream: its half is open, or the stream has not come yet
+abbrev pub MayHear : State → ℕ → Type 0
+MayHear b n = (is_peer_open n b ≡ true) ⊎ (b.opened < n)
+
+-- each of these frames adds to the text of the stream what it brings, and the peer may be heard behind them
+pub record IsHeard (b : State) (fs : List Frame) (n : ℕ) : Type 0 where
+  pub heard : Hears n b fs
+  pub still : MayHear (after_frames b fs) n
+
+-- As long as an end has not ended its half of a stream, all that it writes on it is heard.
+abbrev pub UnendedIsHeard : Type 0
+UnendedIsHeard = (a b : State) (fs ab ba : List Frame) (n : ℕ) → Faces a b (fs ++ ab) ba → HasNotEnded a n → MayHear b n → IsHeard b fs n

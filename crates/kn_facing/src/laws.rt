@@ -1,7 +1,7 @@
 ghost use Rattle.kn_facing.specs.Taken.{DataIsTaken, LastDataIsTaken, RequestIsTaken, ResponseIsTaken, TrailersAreTaken, ResetIsTaken, GrantIsTaken, StreamGrantIsTaken, ClientSettingsAreTaken, ServerSettingsAreTaken, AcknowledgementIsTaken};
 ghost use Rattle.kn_facing.specs.Sums.{FramesTake, FramesGrant, MovesShiftBoth, CallsLeaveBoth};
-ghost use Rattle.kn_facing.specs.Faces.{FacesTurn, FramesKeepFaces, StepsKeepFaces, TakesKeepFaces, TookKeepsFaces, QueuesKeepFaces, FinishesKeepFaces, FacesBegin, MovesKeepFaces, BeginKeepsFaces, AnswerKeepsFaces, EndKeepsFaces, StopKeepsFaces};
-ghost use Rattle.kn_facing.specs.Wires.{WritesBehind, EntersAlike, ReadingKeepsFaces, FacesHaveOneStream, HalvesStayOpen, FacesKeepHalves};
+ghost use Rattle.kn_facing.specs.Faces.{FacesTurn, FramesKeepFaces, StepsKeepFaces, TakesKeepFaces, TookKeepsFaces, QueuesKeepFaces, FinishesKeepFaces, FacesBegin, MovesKeepFaces, BeginKeepsFaces, AnswerKeepsFaces, EndKeepsFaces, StopKeepsFaces, ClientEndKeepsFaces};
+ghost use Rattle.kn_facing.specs.Wires.{WritesBehind, EntersAlike, ReadingKeepsFaces, FacesHaveOneStream, HalvesStayOpen, FacesKeepHalves, UnendedStaysOpen, UnendedIsHeard};
 ghost use Rattle.kn_facing.specs.Pairs.{FacingTurns, FacingBegins, PiecesKeepFacing, EntersKeepFacing, StepsKeepFacing};
 ghost use Rattle.kn_facing.specs.Laws.{AcceptsJoin, AcceptsPart, NoFaultBefore, ReadsOn, OwnStepsTake, StaysFollowed, FewAreRead, MoreAreTaken, FramesKeepFollowed};
 
@@ -213,11 +213,12 @@ pub fn answer_keeps_faces()
     kn_h2::windows_follow();
 }
 
-/// So they do where a server ends its half of a stream by trailers that stand in one frame, and where it tells a
-/// client that goes on to stop.
+/// So they do where a server ends its half of a stream by trailers that stand in one frame, where it tells a client
+/// that goes on to stop, and where a client ends its half by an empty DATA frame.
 pub fn ends_keep_faces()
     ensures trailers { EndKeepsFaces }
     ensures stops { StopKeepsFaces }
+    ensures client { ClientEndKeepsFaces }
 {
     kn_h2_state::more_is_heard();
     kn_h2_state::opened_is_above();
@@ -284,16 +285,35 @@ pub fn facing_goes_on()
 }
 
 /// Frames that are taken, none of which ends a stream, leave the peer's half of it open; so do the first of those that
-/// are on their way between two ends that face each other.
+/// are on their way between two ends that face each other, and all of them while their writer has not ended its half.
 pub fn halves_stay_open()
     ensures frames { HalvesStayOpen }
     ensures faces { FacesKeepHalves }
+    ensures unended { UnendedStaysOpen }
 {
     kn_h2_state::more_is_heard();
     kn_h2_state::opened_is_above();
     kn_h2_state::answered_is_kept();
     kn_h2_state::own_steps_are_heard();
     kn_h2_state::own_facts_stay();
+    kn_h2::frames_keep();
+    kn_h2::role_stays();
+    kn_h2::windows_follow();
+}
+
+/// Of two ends that face each other, as long as the one has not ended its half of a stream, the other hears all that
+/// it writes on it: each frame on its way adds to the text of the stream what it brings, also where the stream is yet
+/// to come.
+pub fn unended_streams_are_heard()
+    ensures { UnendedIsHeard }
+{
+    kn_h2_state::more_is_heard();
+    kn_h2_state::opened_is_above();
+    kn_h2_state::answered_is_kept();
+    kn_h2_state::own_steps_are_heard();
+    kn_h2_state::own_facts_stay();
+    kn_h2_state::text_grows();
+    kn_h2_state::frames_are_heard();
     kn_h2::frames_keep();
     kn_h2::role_stays();
     kn_h2::windows_follow();

@@ -10,5 +10,5 @@ pub use laws::{
     frames_are_taken_in_turn, frames_keep_faces, frames_keep_followed, frames_move_windows,
     halves_stay_open, heads_are_taken, more_are_taken, moves_keep_faces, other_frames_are_taken,
     own_steps_move_windows, own_steps_take, pieces_are_read, reading_keeps_faces, steps_keep_faces,
-    text_is_taken, wires_carry_frames,
+    text_is_taken, unended_streams_are_heard, wires_carry_frames,
 };

@@ -1,3 +1,4 @@
+pub mod FacingLemmas
 pub mod PacketLemmas
 pub mod PendingLemmas
 pub mod QueueLemmas

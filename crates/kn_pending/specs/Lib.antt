@@ -1,3 +1,4 @@
+pub mod Facing
 pub mod Packets
 pub mod Pending
 pub mod Standings

@@ -1,3 +1,4 @@
+ghost use Rattle.kn_pending.specs.Facing.{FacingDelivers};
 ghost use Rattle.kn_pending.specs.Packets.{AreRead, CutsLeaveFronts, NoneIsBad, NothingLeft, QueuedLast, TakenFirst};
 ghost use Rattle.kn_pending.specs.Pending.{Admits, Between, ClosedStays, Delivers, DeliversHeard, Enters, GentleReset, Handles, KeepsBehind, LeavesFront, Queues, QueueStays, Reads, Writes, WritesNothing};
 ghost use Rattle.kn_pending.specs.Standings.{DropsLast, HandlesFirst, LosesSome, QueuesLast};
@@ -27,6 +28,17 @@ pub fn pending_moves()
     kn_h2_state::frames_are_heard();
     kn_h2_state::closed_text_stays();
     kn_h2_state::wire_splits();
+}
+
+/// Between two ends that face each other a piece that is delivered changes nothing of what is pending, as long as the
+/// sender has not ended its half of the stream: also where the stream is yet to come.
+pub fn facing_delivers()
+    ensures { FacingDelivers }
+{
+    kn_h2_state::wire_splits();
+    kn_facing::pieces_are_read();
+    kn_facing::facing_goes_on();
+    kn_facing::unended_streams_are_heard();
 }
 
 /// Packets on their way are read as they were sent, each may be queued behind the others and handled before them, and none is bad. Whatever

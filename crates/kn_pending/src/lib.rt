@@ -4,4 +4,4 @@
 
 mod laws;
 
-pub use laws::{lists_stand_to_bytes, packets_on_their_way, pending_moves};
+pub use laws::{facing_delivers, lists_stand_to_bytes, packets_on_their_way, pending_moves};

@@ -53,6 +53,8 @@ pub mod DestSettles
 pub mod DoorsHeard
 pub mod DoorsKept
 pub mod DoorsTaken
+pub mod EndsParts
+pub mod EndsRuns
 pub mod Events
 pub mod FitsAgents
 pub mod FitsClients
@@ -70,6 +72,7 @@ pub mod OwnParts
 pub mod OwnRuns
 pub mod Pairs
 pub mod Promises
+pub mod QuietWorlds
 pub mod RefusedParts
 pub mod RefusedPipes
 pub mod RefusedRuns

@@ -18,6 +18,8 @@ use Rattle.kn_world.specs.declared.parts.Stage.TheVariants.{Dialling, Open, Refu
 use Rattle.kn_world.specs.declared.state.State.{State}
 use Rattle.kn_world.specs.Apps as apps
 use Rattle.kn_world.specs.Clients as clients
+use Rattle.kn_connect.specs.Replies.{status_and_reason}
+use Rattle.kn_connect.specs.Statuses.{error_status, reply_length}
 use Rattle.kn_world.specs.Doors as door
 use Rattle.kn_world.specs.Effects.{is_unheard}
 use Rattle.kn_world.specs.Idle.{is_at_door}

@@ -49,6 +49,8 @@ use Rattle.kn_world.specs.Pipes as pipes
 use Rattle.kn_world.specs.ServerPackets as server_packets
 use Rattle.kn_world.specs.ServerSteps as server
 use Rattle.kn_world.specs.Times.{times}
+use Rattle.kn_connect.specs.Replies.{status_and_reason}
+use Rattle.kn_connect.specs.Statuses.{fault_status, reply_length}
 use Rattle.kn_connect.specs.Answers.{Answers, IsGiven}
 use Rattle.kn_connect.specs.Replies.{status_and_reason}
 use Rattle.kn_connect.specs.Statuses.{fault_status, reply_length}

@@ -48,7 +48,7 @@ pub nth_map : {A B : Type 0} (f : A → B) (n : ℕ) (xs : List A) → nth n (ma
 nth_map f zero xs = refl
 nth_map f (suc i) xs = slice_get-map f xs i
 
-all_nth : {X : Type 0} (p : X → Bool) (xs : List X) (n : ℕ) (x : X) → list_all p xs ≡ true → nth n xs ≡ Some x → p x ≡ true
+pub all_nth : {X : Type 0} (p : X → Bool) (xs : List X) (n : ℕ) (x : X) → list_all p xs ≡ true → nth n xs ≡ Some x → p x ≡ true
 all_nth p xs zero x all at = absurd cc
 all_nth p xs (suc i) x all at = here xs i all at
   where
@@ -57,7 +57,7 @@ all_nth p xs (suc i) x all at = here xs i all at
     here (y ∷ ys) zero h e = let same : y ≡ x = cc in subst (λ z. p z ≡ true) same (and_first (p y) (list_all p ys) h)
     here (y ∷ ys) (suc j) h e = here ys j (and_second (p y) (list_all p ys) h) e
 
-empty_of : {X : Type 0} (xs : List X) → (length xs == 0) ≡ true → xs ≡ []
+pub empty_of : {X : Type 0} (xs : List X) → (length xs == 0) ≡ true → xs ≡ []
 empty_of [] h = refl
 empty_of (x ∷ xs) h = absurd (cc (sym h ∙ eqb-suc-zero (length xs)))
 
@@ -209,7 +209,7 @@ module _ (s : State) (fits : Fits s) (keys : Keys (shown s)) (owned : Owned (sho
         by_state dest.Open e = e
         by_state dest.Lingering e = by_dial (nth has.0 s.dials) refl e
 
-    quiet_world : IsQuiet (shown s)
+    pub quiet_world : IsQuiet (shown s)
     quiet_world = record {
       up = λ l h. up_none l (nth l s.agents) refl;
       down = λ l h. down_none l (nth l s.agents) refl;

@@ -1,11 +1,13 @@
 pub mod Asking
 pub mod Chosen
+pub mod Ends
 pub mod Fits
 pub mod Headline
 pub mod Homes
 pub mod Leads
 pub mod Named
 pub mod OwnBytes
+pub mod Quiet
 pub mod Refusals
 pub mod Requests
 pub mod Settled

@@ -8,6 +8,7 @@ use Rattle.kn_connect.specs.declared.answer.ConnectError.{ConnectError}
 use Rattle.kn_connect.specs.declared.answer.ConnectError.TheVariants.{NoMemory, Fault}
 use Rattle.kn_connect.specs.declared.answer.ConnectAnswer.{ConnectAnswer}
 use Rattle.kn_connect.specs.declared.answer.ConnectAnswer.TheVariants.{More, Head}
+use Rattle.kn_connect.specs.Statuses.{fault_status}
 use Rattle.kn_h2_state.specs.Calls.{fresh, fresh_state}
 use Rattle.kn_h2_state.specs.Streams.{stream_at}
 use Rattle.kn_h2_state.proofs.BorneLemmas.{Rises}
@@ -99,7 +100,7 @@ fresh_waits kinds.Agents s = omega arith
 fresh_waits kinds.Clients s = omega arith
 fresh_waits kinds.Connect s = omega arith
 
-at_begun : (P : Option End → Type 0) (ends : Members End) (n c : ℕ) (e : End) → AreMembers ends → (n ≡ c → P (Some e)) → P (at ends c) → P (at (inserted ends n e) c)
+pub at_begun : (P : Option End → Type 0) (ends : Members End) (n c : ℕ) (e : End) → AreMembers ends → (n ≡ c → P (Some e)) → P (at ends c) → P (at (inserted ends n e) c)
 at_begun P ends n c e a own other = by_number (eqb c n) refl
   where
     by_number : (t : Bool) → eqb c n ≡ t → P (at (inserted ends n e) c)
@@ -240,7 +241,7 @@ whole_inv node conn target early d there unclaimed i = by_room (has_no_front nod
 came_inv : (node : Node) (conn : ℕ) (answer : Result ConnectAnswer ConnectError) (d : Door) → at node.ends conn ≡ Some (Connect d) → d.front ≡ None → Inv node → Inv (head_came conn answer node)
 came_inv node conn (Ok More) d there unclaimed i = i
 came_inv node conn (Ok (Head target early)) d there unclaimed i = whole_inv node conn target early d there unclaimed i
-came_inv node conn (Err (Fault fault)) d there unclaimed i = calm_inv node conn (on_door (door.refused (door.fault_status fault))) (refused_calm (door.fault_status fault)) i
+came_inv node conn (Err (Fault fault)) d there unclaimed i = calm_inv node conn (on_door (door.refused (fault_status fault))) (refused_calm (fault_status fault)) i
 came_inv node conn (Err NoMemory) d there unclaimed i = i
 
 -- what holds the head heard more of it
@@ -288,8 +289,8 @@ leads_inv old (Begin call ∷ deeds) new leads i = leads_inv leads.0 deeds new l
 leads_inv old (Make s ∷ deeds) new leads i = leads_inv (after_step old s) deeds new leads.1 (step_sound old s leads.0 i).inv
 leads_inv old (HandOut c ∷ deeds) new leads i = leads_inv leads.0 deeds new leads.2 (handed_inv old leads.0 c leads.1 i)
 
-start_inv : (strategies : List Strategy) (id : List ℕ) → Inv (start strategies id)
-start_inv strategies id = (
+start_inv : (strategies : List Strategy) (id : List ℕ) (count : ℕ) → Inv (start strategies id count)
+start_inv strategies id count = (
   record {
     ends = record { rising = tt; same = refl };
     fronts = record { rising = tt; same = refl };
@@ -304,16 +305,16 @@ start_inv strategies id = (
   λ f. room_first f strategies,
 )
 
-pub fronts_have_room : (strategies : List Strategy) (id : List ℕ) (deeds : List Deed) (node : Node) → Leads (start strategies id) deeds node → AreAlone node × HaveRoom node
-fronts_have_room strategies id deeds node leads = let i = leads_inv (start strategies id) deeds node leads (start_inv strategies id) in (alone_of node i.0, i.1)
+pub fronts_have_room : (strategies : List Strategy) (id : List ℕ) (count : ℕ) (deeds : List Deed) (node : Node) → Leads (start strategies id count) deeds node → AreAlone node × HaveRoom node
+fronts_have_room strategies id count deeds node leads = let i = leads_inv (start strategies id count) deeds node leads (start_inv strategies id count) in (alone_of node i.0, i.1)
 
 ready_drops : (node : Node) (e : ServerEvent) → Ready node e → DropsNone (after_core e node) (server.step node.core e).outs
 ready_drops node e r = (events_drop_none node e (alone_of node r.inv.0) r.inv.1 r.short r.in_time).0
 
-pub none_dropped : (strategies : List Strategy) (id : List ℕ) (deeds : List Deed) (node : Node) (s : Step) (e : ServerEvent) → Leads (start strategies id) deeds node → MayDo node s → step_events node s ≡ e ∷ []
+pub none_dropped : (strategies : List Strategy) (id : List ℕ) (count : ℕ) (deeds : List Deed) (node : Node) (s : Step) (e : ServerEvent) → Leads (start strategies id count) deeds node → MayDo node s → step_events node s ≡ e ∷ []
     → (after_step node s ≡ event e (finds node s)) × DropsNone (after_core e (finds node s)) (server.step (finds node s).core e).outs
-none_dropped strategies id deeds node s e leads may is =
-    let rung = (step_sound node s may (leads_inv (start strategies id) deeds node leads (start_inv strategies id))).rings e is in
+none_dropped strategies id count deeds node s e leads may is =
+    let rung = (step_sound node s may (leads_inv (start strategies id count) deeds node leads (start_inv strategies id count))).rings e is in
     (rung.0, ready_drops (finds node s) e rung.1)
 
 head_dials : (old : Node) (conn : ℕ) (d : Door) (held target early : List ℕ) → at old.ends conn ≡ Some (Connect d) → d.front ≡ None → Inv old
@@ -322,11 +323,11 @@ head_dials old conn d held target early there unclaimed i =
     up_dial (on_end conn (on_door (door.with_head held)) old) conn target early (door.with_head held d) (changed_at old.ends conn (on_door (door.with_head held)) ∙ ap (changed_end (on_door (door.with_head held))) there) unclaimed
     (calm_inv old conn (on_door (door.with_head held)) (head_calm held) i)
 
-pub dials_drop_none : (strategies : List Strategy) (id : List ℕ) (deeds : List Deed) (old : Node) (conn : ℕ) (d : Door) (held target early : List ℕ) (node : Node) → Leads (start strategies id) deeds old → at old.ends conn ≡ Some (Connect d) → d.front ≡ None
+pub dials_drop_none : (strategies : List Strategy) (id : List ℕ) (count : ℕ) (deeds : List Deed) (old : Node) (conn : ℕ) (d : Door) (held target early : List ℕ) (node : Node) → Leads (start strategies id count) deeds old → at old.ends conn ≡ Some (Connect d) → d.front ≡ None
     → node ≡ on_end conn (on_door (door.with_head held)) old
     → (door_up conn target early node ≡ event (dial_event node target) (dial_finds conn early node)) × DropsNone (after_core (dial_event node target) (dial_finds conn early node)) (server.step (dial_finds conn early node).core (dial_event node target)).outs
-dials_drop_none strategies id deeds old conn d held target early node leads there unclaimed is =
-    let i = leads_inv (start strategies id) deeds old leads (start_inv strategies id) in
+dials_drop_none strategies id count deeds old conn d held target early node leads there unclaimed is =
+    let i = leads_inv (start strategies id count) deeds old leads (start_inv strategies id count) in
     let ready : Ready (dial_finds conn early node) (dial_event node target) =
     subst (λ (n : Node). Ready (dial_finds conn early n) (dial_event n target)) (sym is) (head_dials old conn d held target early there unclaimed i) in
     (up_is node conn target early, ready_drops (dial_finds conn early node) (dial_event node target) ready)

@@ -60,12 +60,12 @@ for_join c (x ∷ told) more = by_conn (eqb x.conn c) (for_join c told more)
     by_conn true later = ap (λ es. x.event ∷ es) later
     by_conn false later = later
 
-for_tagged : (c : ℕ) (es : List H2Event) → events_for c (tagged c es) ≡ es
+pub for_tagged : (c : ℕ) (es : List H2Event) → events_for c (tagged c es) ≡ es
 unfolding events_for
 for_tagged c [] = refl
 for_tagged c (e ∷ es) = let same : eqb c c ≡ true = eq-eqb c c refl in rw same (ap (λ fs. e ∷ fs) (for_tagged c es))
 
-for_others : (c d : ℕ) (es : List H2Event) → eqb d c ≡ false → events_for c (tagged d es) ≡ []
+pub for_others : (c d : ℕ) (es : List H2Event) → eqb d c ≡ false → events_for c (tagged d es) ≡ []
 unfolding events_for
 for_others c d [] other = refl
 for_others c d (e ∷ es) other = rw other (for_others c d es other)

@@ -8,3 +8,7 @@ pub mod SoundLemmas
 pub mod StepLemmas
 pub mod CallLemmas
 pub mod HoldLemmas
+pub mod TextLemmas
+pub mod ReadLemmas
+pub mod CarrierReadLemmas
+pub mod UnreadLemmas

@@ -111,11 +111,11 @@ finds node (Forget c) = node
 
 -- Whatever comes, each front stands alone, and has room: no more than 4,644,864 bytes ever wait for it.
 abbrev pub FrontsHaveRoom : Type 0
-FrontsHaveRoom = (strategies : List Strategy) (id : List ℕ) (deeds : List Deed) (node : Node) → Leads (start strategies id) deeds node → AreAlone node × HaveRoom node
+FrontsHaveRoom = (strategies : List Strategy) (id : List ℕ) (count : ℕ) (deeds : List Deed) (node : Node) → Leads (start strategies id count) deeds node → AreAlone node × HaveRoom node
 
 -- Whatever comes, the event of a step drops no packet for a front.
 abbrev pub NoneIsDropped : Type 0
-NoneIsDropped = (strategies : List Strategy) (id : List ℕ) (deeds : List Deed) (node : Node) (s : Step) (e : ServerEvent) → Leads (start strategies id) deeds node → MayDo node s → step_events node s ≡ e ∷ []
+NoneIsDropped = (strategies : List Strategy) (id : List ℕ) (count : ℕ) (deeds : List Deed) (node : Node) (s : Step) (e : ServerEvent) → Leads (start strategies id count) deeds node → MayDo node s → step_events node s ≡ e ∷ []
     → (after_step node s ≡ event e (finds node s)) × DropsNone (after_core e (finds node s)) (server.step (finds node s).core e).outs
 
 -- what calls lead to is what their deeds lead to
@@ -134,6 +134,6 @@ dial_event node target = FrontPacket (node.core.fronts.top + 1) (DialReq (codes 
 
 -- Whatever came before, the dial of a head drops no packet for a front; a head has no front before, and keeps what it holds.
 abbrev pub DialsDropNone : Type 0
-DialsDropNone = (strategies : List Strategy) (id : List ℕ) (deeds : List Deed) (old : Node) (conn : ℕ) (d : Door) (held target early : List ℕ) (node : Node) → Leads (start strategies id) deeds old → at old.ends conn ≡ Some (Connect d) → d.front ≡ None
+DialsDropNone = (strategies : List Strategy) (id : List ℕ) (count : ℕ) (deeds : List Deed) (old : Node) (conn : ℕ) (d : Door) (held target early : List ℕ) (node : Node) → Leads (start strategies id count) deeds old → at old.ends conn ≡ Some (Connect d) → d.front ≡ None
     → node ≡ on_end conn (on_door (door.with_head held)) old
     → (door_up conn target early node ≡ event (dial_event node target) (dial_finds conn early node)) × DropsNone (after_core (dial_event node target) (dial_finds conn early node)) (server.step (dial_finds conn early node).core (dial_event node target)).outs

@@ -1,7 +1,7 @@
 //! Laws over all that calls and steps lead to from a new node.
 
 ghost use Rattle.kn_server_courses.specs.Courses.{FrontsHaveRoom, NoneIsDropped, DialsDropNone, CallsAreDeeds};
-ghost use Rattle.kn_server_courses.specs.Holding.{OnlyPausesHold, OnlyPausesHoldEarly};
+ghost use Rattle.kn_server_courses.specs.Holding.{OnlyPausesHold, OnlyPausesHoldText, OnlyPausesHoldEarly};
 
 /// Whatever comes, each front stands alone on its stream and at most 4,644,864 bytes wait for it; and no step drops a
 /// packet for a front as one too many.
@@ -17,8 +17,9 @@ pub fn calls_are_deeds()
 {}
 
 /// At the end of each call a message that was read whole is left at the front of a stream only where a pause holds it,
-/// and early bytes of a connection by CONNECT only where they wait.
+/// text that was not read only behind such a message, and early bytes of a connection by CONNECT only where they wait.
 pub fn only_pauses_hold_what_is_whole()
     ensures messages { OnlyPausesHold }
+    ensures text { OnlyPausesHoldText }
     ensures early { OnlyPausesHoldEarly }
 {}

@@ -1,3 +1,4 @@
+use Rattle.kn_facing.proofs.ClientEnd.{client_end_keeps_faces}
 use Rattle.kn_facing.proofs.EndStep.{end_keeps_faces, stop_keeps_faces}
 use Rattle.kn_facing.proofs.FaceLemmas.{Known}
 use Rattle.kn_facing.proofs.MoveStep.{Moving}
@@ -26,4 +27,4 @@ returns c =
       read = c.written_is_read.ensures;
       written = c.moves_are_written.ensures;
     } in
-    record { trailers = end_keeps_faces k v c.next_block_is_read.ensures; stops = stop_keeps_faces k v }
+    record { trailers = end_keeps_faces k v c.next_block_is_read.ensures; stops = stop_keeps_faces k v; client = client_end_keeps_faces k v }

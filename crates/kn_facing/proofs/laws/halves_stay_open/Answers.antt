@@ -1,5 +1,5 @@
 use Rattle.kn_facing.proofs.FaceLemmas.{Known}
-use Rattle.kn_facing.proofs.OpenLemmas.{halves_stay_open, faces_keep_halves}
+use Rattle.kn_facing.proofs.OpenLemmas.{halves_stay_open, faces_keep_halves, unended_stays_open}
 use Rattle.kn_facing.proofs.laws.halves_stay_open.Goals as goal
 
 pub returns : goal.returns
@@ -16,4 +16,4 @@ returns c =
       shift = c.windows_follow.ensures.stream;
       shift_all = c.windows_follow.ensures.connection;
     } in
-    record { frames = halves_stay_open k.keep; faces = faces_keep_halves k }
+    record { frames = halves_stay_open k.keep; faces = faces_keep_halves k; unended = unended_stays_open k }
