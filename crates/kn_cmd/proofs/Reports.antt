@@ -1,5 +1,5 @@
 -- What a report tells is of a world that events reach.
-use Rattle.std.proofs.Common.{◌≡◌, ℕ, List, subst}
+use Rattle.std.proofs.Common.{◌≡◌, ℕ, true, List, subst}
 use Rattle.kn_route.specs.declared.strategy.Strategy.{Strategy}
 use Rattle.kn_world.specs.declared.event.WorldEvent.{WorldEvent}
 use Rattle.kn_world.specs.declared.state.State.{State}
@@ -10,6 +10,7 @@ use Rattle.kn_refinement.specs.Chosen.{agents_in}
 use Rattle.kn_refinement.specs.Ends.{NoEndIsDue}
 use Rattle.kn_refinement.specs.Headline.{KeepsPromises}
 use Rattle.kn_refinement.specs.OwnBytes.{SendsOwn, app_bytes, dial_bytes}
+use Rattle.kn_refinement.specs.Quiet.{IsAtRest}
 use Rattle.kn_script.specs.Report.{report_of}
 use Rattle.kn_cmd.specs.Outcome.{ReportsRun}
 
@@ -26,9 +27,13 @@ SendAll = (strategies : List Strategy) (events : List WorldEvent) (idle : ℕ) (
 abbrev pub TellAll : Type 0
 TellAll = (strategies : List Strategy) (events : List WorldEvent) (idle : ℕ) (s : State) → Runs events (start strategies) idle s → NoEndIsDue s
 
-reports : KeepAll → SendAll → TellAll → (strategies : List Strategy) (events : List WorldEvent) (idle : ℕ) (s : State) (text : List ℕ)
+-- those that are called quiet are at rest
+abbrev pub RestAll : Type 0
+RestAll = (strategies : List Strategy) (events : List WorldEvent) (idle : ℕ) (s : State) → Runs events (start strategies) idle s → (shown s).quiet ≡ true → IsAtRest s
+
+reports : KeepAll → SendAll → TellAll → RestAll → (strategies : List Strategy) (events : List WorldEvent) (idle : ℕ) (s : State) (text : List ℕ)
     → Runs events (start strategies) idle s → text ≡ report_of (shown s) idle → ReportsRun strategies events text
-reports keep send tell strategies events idle s text runs told = record {
+reports keep send tell rest strategies events idle s text runs told = record {
   world = s;
   idle = idle;
   reached = runs;
@@ -36,10 +41,11 @@ reports keep send tell strategies events idle s text runs told = record {
   promises = keep strategies events idle s runs;
   own_bytes = send strategies events idle s runs;
   ends = tell strategies events idle s runs;
+  quiet = rest strategies events idle s runs;
 }
 
 -- where the run begins in a world that is the one in which nothing has happened
-pub reports_from : KeepAll → SendAll → TellAll → (strategies : List Strategy) (events : List WorldEvent) (first : State) (idle : ℕ) (s : State) (text : List ℕ)
+pub reports_from : KeepAll → SendAll → TellAll → RestAll → (strategies : List Strategy) (events : List WorldEvent) (first : State) (idle : ℕ) (s : State) (text : List ℕ)
     → first ≡ start strategies → Runs events first idle s → text ≡ report_of (shown s) idle → ReportsRun strategies events text
-reports_from keep send tell strategies events first idle s text is runs told =
-    reports keep send tell strategies events idle s text (subst (λ f. Runs events f idle s) is runs) told
+reports_from keep send tell rest strategies events first idle s text is runs told =
+    reports keep send tell rest strategies events idle s text (subst (λ f. Runs events f idle s) is runs) told

@@ -1,5 +1,5 @@
 -- What a command makes of its input: what it writes, or where the input breaks its grammar.
-use Rattle.std.specs.Prelude.{◌≡◌, ℕ, ◌≤◌, List, [], ◌∷◌, ◌++◌, length, ⊤, Result, Ok, Err, codes}
+use Rattle.std.specs.Prelude.{◌≡◌, ℕ, ◌≤◌, List, [], ◌∷◌, ◌++◌, length, true, ⊤, Result, Ok, Err, codes}
 use Rattle.kn_io.specs.declared.no_memory.NoMemory.{NoMemory as MemoryRanOut}
 use Rattle.kn_packet.specs.declared.packet.Packet.{Packet}
 use Rattle.kn_packet.specs.declared.fault.PacketFault.{PacketFault}
@@ -22,6 +22,7 @@ use Rattle.kn_refinement.specs.Chosen.{agents_in}
 use Rattle.kn_refinement.specs.Ends.{NoEndIsDue}
 use Rattle.kn_refinement.specs.Headline.{KeepsPromises}
 use Rattle.kn_refinement.specs.OwnBytes.{SendsOwn, app_bytes, dial_bytes}
+use Rattle.kn_refinement.specs.Quiet.{IsAtRest}
 use Rattle.kn_script.specs.Lines.{lines_of}
 use Rattle.kn_script.specs.Script.{script_of}
 use Rattle.kn_script.specs.Texts.{text_of_reason}
@@ -43,6 +44,7 @@ line_limit = 10000
 -- of one app, connections are accounted for, each tunnel is in its tables, each dial has a choice of its own, which
 -- is what these strategies pick among links of the agents that these events bring, and once all is quiet and closed
 -- nothing is left. What each side sent is what the events gave it, and no end is due.
+-- Where the report says `quiet yes`, it is at rest.
 pub record ReportsRun (strategies : List Strategy) (events : List WorldEvent) (text : List ℕ) : Type 0 where
   pub world : State
   pub idle : ℕ
@@ -53,6 +55,8 @@ pub record ReportsRun (strategies : List Strategy) (events : List WorldEvent) (t
   pub own_bytes : SendsOwn (app_bytes events (start strategies) idle world reached) (dial_bytes events (start strategies) idle world reached) world
   -- each that ended its sending has told so, once no byte of it waits
   pub ends : NoEndIsDue world
+  -- where it says that all is quiet, the world is at rest
+  pub quiet : (shown world).quiet ≡ true → IsAtRest world
 
 -- the line of the choice that a question asks for, among these links
 abbrev pub choice_line : Question → List Link → List ℕ

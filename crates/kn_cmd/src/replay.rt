@@ -6,7 +6,9 @@ use crate::Command;
 use crate::messages::line_fault;
 use crate::outcome::{Outcome, refused, written};
 use kn_io::{Blob, NoMemory};
-use kn_refinement::{no_end_is_due, sides_send_their_own_bytes, worlds_keep_their_promises};
+use kn_refinement::{
+    no_end_is_due, quiet_worlds_are_at_rest, sides_send_their_own_bytes, worlds_keep_their_promises,
+};
 use kn_route::Strategies;
 use kn_script::{ScriptError, line_count, read_script, reason_text, report};
 use kn_world::{World, WorldEvent};
@@ -40,6 +42,7 @@ fn replayed(alloc: Global, strategies: Strategies, events: &[WorldEvent]) -> Res
     worlds_keep_their_promises();
     sides_send_their_own_bytes();
     no_end_is_due();
+    quiet_worlds_are_at_rest();
     let mut world = World::new(alloc, strategies);
     let idle = world.run(alloc, events)?;
     report(alloc, &world, idle)
