@@ -11,6 +11,7 @@ use Rattle.kn_refinement.specs.Ends.{NoEndIsDue}
 use Rattle.kn_refinement.specs.Headline.{KeepsPromises}
 use Rattle.kn_refinement.specs.OwnBytes.{SendsOwn, app_bytes, dial_bytes}
 use Rattle.kn_refinement.specs.Quiet.{IsAtRest}
+use Rattle.kn_refinement.specs.Refusals.{RefusesUnanswered}
 use Rattle.kn_script.specs.Report.{report_of}
 use Rattle.kn_cmd.specs.Outcome.{ReportsRun}
 
@@ -31,21 +32,26 @@ TellAll = (strategies : List Strategy) (events : List WorldEvent) (idle : ℕ) (
 abbrev pub RestAll : Type 0
 RestAll = (strategies : List Strategy) (events : List WorldEvent) (idle : ℕ) (s : State) → Runs events (start strategies) idle s → (shown s).quiet ≡ true → IsAtRest s
 
-reports : KeepAll → SendAll → TellAll → RestAll → (strategies : List Strategy) (events : List WorldEvent) (idle : ℕ) (s : State) (text : List ℕ)
+-- in all of them an app with a choice that has no answer was refused
+abbrev pub RefuseAll : Type 0
+RefuseAll = (strategies : List Strategy) (events : List WorldEvent) (idle : ℕ) (s : State) → Runs events (start strategies) idle s → RefusesUnanswered s
+
+reports : KeepAll → RefuseAll → SendAll → TellAll → RestAll → (strategies : List Strategy) (events : List WorldEvent) (idle : ℕ) (s : State) (text : List ℕ)
     → Runs events (start strategies) idle s → text ≡ report_of (shown s) idle → ReportsRun strategies events text
-reports keep send tell rest strategies events idle s text runs told = record {
+reports keep refuse send tell rest strategies events idle s text runs told = record {
   world = s;
   idle = idle;
   reached = runs;
   report = told;
   promises = keep strategies events idle s runs;
+  refused = refuse strategies events idle s runs;
   own_bytes = send strategies events idle s runs;
   ends = tell strategies events idle s runs;
   quiet = rest strategies events idle s runs;
 }
 
 -- where the run begins in a world that is the one in which nothing has happened
-pub reports_from : KeepAll → SendAll → TellAll → RestAll → (strategies : List Strategy) (events : List WorldEvent) (first : State) (idle : ℕ) (s : State) (text : List ℕ)
+pub reports_from : KeepAll → RefuseAll → SendAll → TellAll → RestAll → (strategies : List Strategy) (events : List WorldEvent) (first : State) (idle : ℕ) (s : State) (text : List ℕ)
     → first ≡ start strategies → Runs events first idle s → text ≡ report_of (shown s) idle → ReportsRun strategies events text
-reports_from keep send tell rest strategies events first idle s text is runs told =
-    reports keep send tell rest strategies events idle s text (subst (λ f. Runs events f idle s) is runs) told
+reports_from keep refuse send tell rest strategies events first idle s text is runs told =
+    reports keep refuse send tell rest strategies events idle s text (subst (λ f. Runs events f idle s) is runs) told

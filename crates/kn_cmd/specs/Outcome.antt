@@ -23,6 +23,7 @@ use Rattle.kn_refinement.specs.Ends.{NoEndIsDue}
 use Rattle.kn_refinement.specs.Headline.{KeepsPromises}
 use Rattle.kn_refinement.specs.OwnBytes.{SendsOwn, app_bytes, dial_bytes}
 use Rattle.kn_refinement.specs.Quiet.{IsAtRest}
+use Rattle.kn_refinement.specs.Refusals.{RefusesUnanswered}
 use Rattle.kn_script.specs.Lines.{lines_of}
 use Rattle.kn_script.specs.Script.{script_of}
 use Rattle.kn_script.specs.Texts.{text_of_reason}
@@ -43,14 +44,16 @@ line_limit = 10000
 -- has happened and dials go by these strategies. This world keeps its promises: bytes stay apart, no two dials are
 -- of one app, connections are accounted for, each tunnel is in its tables, each dial has a choice of its own, which
 -- is what these strategies pick among links of the agents that these events bring, and once all is quiet and closed
--- nothing is left. What each side sent is what the events gave it, and no end is due.
--- Where the report says `quiet yes`, it is at rest.
+-- nothing is left. An app with a choice that has no answer was refused. What each side sent is what the events gave
+-- it, and no end is due. Where the report says `quiet yes`, it is at rest.
 pub record ReportsRun (strategies : List Strategy) (events : List WorldEvent) (text : List ℕ) : Type 0 where
   pub world : State
   pub idle : ℕ
   pub reached : Runs events (start strategies) idle world
   pub report : text ≡ report_of (shown world) idle
   pub promises : KeepsPromises strategies (agents_in events) world
+  -- each app with a choice that has no answer was refused, or its refusal is on its way, or its client has lost the stream
+  pub refused : RefusesUnanswered world
   -- each app and each destination sent the bytes of the events that were not idle for it, and no others
   pub own_bytes : SendsOwn (app_bytes events (start strategies) idle world reached) (dial_bytes events (start strategies) idle world reached) world
   -- each that ended its sending has told so, once no byte of it waits

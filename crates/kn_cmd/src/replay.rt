@@ -7,7 +7,8 @@ use crate::messages::line_fault;
 use crate::outcome::{Outcome, refused, written};
 use kn_io::{Blob, NoMemory};
 use kn_refinement::{
-    no_end_is_due, quiet_worlds_are_at_rest, sides_send_their_own_bytes, worlds_keep_their_promises,
+    no_end_is_due, quiet_worlds_are_at_rest, sides_send_their_own_bytes,
+    unanswered_apps_are_refused, worlds_keep_their_promises,
 };
 use kn_route::Strategies;
 use kn_script::{ScriptError, line_count, read_script, reason_text, report};
@@ -40,6 +41,7 @@ fn replayed(alloc: Global, strategies: Strategies, events: &[WorldEvent]) -> Res
     ensures { IfOk result (ReportsRun strategies events.now) }
 {
     worlds_keep_their_promises();
+    unanswered_apps_are_refused();
     sides_send_their_own_bytes();
     no_end_is_due();
     quiet_worlds_are_at_rest();

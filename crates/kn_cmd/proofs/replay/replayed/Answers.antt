@@ -9,5 +9,5 @@ use Rattle.kn_cmd.proofs.replay.replayed.Goals as goal
 
 pub returns : goal.returns
 returns c = IfOk-weaker c.report.result (λ text. text ≡ report_of (shown c.run.new.self) c.in_ok-idle.idle) (ReportsRun c.args.strategies c.args.events.now)
-    (λ text told. reports_from c.worlds_keep_their_promises.ensures c.sides_send_their_own_bytes.ensures c.no_end_is_due.ensures c.quiet_worlds_are_at_rest.ensures c.args.strategies c.args.events.now c.new-world.result c.in_ok-idle.idle c.run.new.self text c.new-world.ensures c.in_ok-idle.ensures told)
+    (λ text told. reports_from c.worlds_keep_their_promises.ensures c.unanswered_apps_are_refused.ensures c.sides_send_their_own_bytes.ensures c.no_end_is_due.ensures c.quiet_worlds_are_at_rest.ensures c.args.strategies c.args.events.now c.new-world.result c.in_ok-idle.idle c.run.new.self text c.new-world.ensures c.in_ok-idle.ensures told)
     c.report.ensures
